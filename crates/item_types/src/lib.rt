@@ -1,0 +1,31 @@
+//! The words that every other crate speaks in: texts and lists that contracts see as lists, the
+//! declarations of an application's extensions, and the values that build items carry.
+//!
+//! Nothing here knows of files, chains or runs. Each type that owns memory is `Drop`, copies
+//! itself by [`Same::try_copy`] and compares itself by [`Same::same`]; both are exact.
+#![tactic(auto)]
+
+mod boxed;
+mod decl;
+mod memory;
+mod print;
+mod quote;
+mod same;
+mod seq;
+mod step;
+mod text;
+mod value;
+
+pub use boxed::Boxed;
+pub use decl::{BeanDecl, ItemDecl, ItemKind, MethodSig, Names, RecorderDecl};
+pub use memory::Memory;
+pub use print::{push_value, push_values};
+pub use quote::push_quoted;
+pub use same::Same;
+pub use seq::{Bytes, Seq};
+pub use step::{Consume, Phase, Produce, StepDecl};
+pub use text::Text;
+pub use value::{NodeId, Proxy, Value, copy_values, same_values};
+
+#[cfg(test)]
+mod tests;

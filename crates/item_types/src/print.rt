@@ -1,0 +1,111 @@
+ghost use Rattle.std.specs.Prelude.{◌≡◌, ◌++◌, [], map, codes, string_bytes, OnOk};
+ghost use Rattle.item_types.specs.Printed.{joined, named, phase_text, node_text, proxy_text, value_text};
+
+use crate::decl::Names;
+use crate::memory::Memory;
+use crate::quote::push_quoted;
+use crate::step::Phase;
+use crate::text::Text;
+use crate::value::{NodeId, Proxy, Value};
+
+fn push_node(id: NodeId, out: &mut String) -> Result<(), Memory>
+    ensures { OnOk result (string_bytes out.new ≡ string_bytes out.old ++ node_text id) }
+{
+    let step = id.step;
+    let k = id.k;
+    write!(out, "#{step}.{k}")?;
+    Ok(())
+}
+
+fn phase_word(phase: Phase) -> &'static str
+    ensures { result.now ≡ phase_text phase }
+{
+    match phase {
+        Phase::Static => "static",
+        Phase::Runtime => "runtime",
+    }
+}
+
+fn push_proxy(proxy: Proxy, out: &mut String) -> Result<(), Memory>
+    ensures { OnOk result (string_bytes out.new ≡ string_bytes out.old ++ proxy_text proxy) }
+{
+    let step = proxy.step;
+    let call = proxy.call;
+    let phase = phase_word(proxy.phase);
+    write!(out, "@{step}.{call}.{phase}")?;
+    Ok(())
+}
+
+/// Appends the value's text, as a history shows it.
+///
+/// # Errors
+/// `Memory` for want of memory.
+#[cycle(print)]
+pub fn push_value(value: &Value, names: &Names, out: &mut String) -> Result<(), Memory>
+    ensures { OnOk result (string_bytes out.new ≡ string_bytes out.old ++ value_text names.now value.now) }
+{
+    match value {
+        Value::Null => out.push_str("null")?,
+        Value::Bool(b) => write!(out, "{b}")?,
+        Value::Long(n) => write!(out, "{n}")?,
+        Value::Str(text) => push_quoted(text.as_str(), out)?,
+        Value::List(id, parts) => {
+            out.push_str("[")?;
+            push_node(*id, out)?;
+            out.push_str(":")?;
+            push_values(parts.as_slice(), names, " ", out)?;
+            out.push_str("]")?;
+        }
+        Value::Bean(id, bean, parts) => {
+            out.push_str(names.bean_name(*bean))?;
+            push_node(*id, out)?;
+            out.push_str("{")?;
+            push_fields(names.fields_of(*bean), parts.as_slice(), names, out)?;
+            out.push_str("}")?;
+        }
+        Value::Returned(proxy) => push_proxy(*proxy, out)?,
+    }
+    Ok(())
+}
+
+/// Appends the values' texts, with `before` before the first and commas between them.
+///
+/// # Errors
+/// `Memory` for want of memory.
+#[cycle(print)]
+pub fn push_values(
+    values: &[Value],
+    names: &Names,
+    before: &str,
+    out: &mut String,
+) -> Result<(), Memory>
+    ensures { OnOk result (string_bytes out.new ≡ string_bytes out.old ++ joined before.now (codes ", ") (map (value_text names.now) values.now)) }
+{
+    let mut mark = before;
+    for value in values {
+        out.push_str(mark)?;
+        push_value(value, names, out)?;
+        mark = ", ";
+    }
+    Ok(())
+}
+
+#[cycle(print)]
+fn push_fields(
+    fields: &[Text],
+    values: &[Value],
+    names: &Names,
+    out: &mut String,
+) -> Result<(), Memory>
+    ensures { OnOk result (string_bytes out.new ≡ string_bytes out.old ++ joined [] (codes ", ") (named fields.now (map (value_text names.now) values.now))) }
+{
+    let mut mark = "";
+    for i in 0..fields.len().min(values.len()) {
+        out.push_str(mark)?;
+        out.push_str(fields[i].as_str())?;
+        out.push_str(": ")?;
+        push_value(&values[i], names, out)?;
+        mark = ", ";
+    }
+    Ok(())
+}
