@@ -1,0 +1,6 @@
+pub mod Causes
+pub mod Files
+pub mod Shelves
+pub mod Sinks
+pub mod Fakes
+pub mod Edges
