@@ -1,0 +1,14 @@
+pub mod BuildLemmas
+pub mod ChainLemmas
+pub mod CoreLemmas
+pub mod CycleLemmas
+pub mod EdgeLemmas
+pub mod FaultLemmas
+pub mod LawLemmas
+pub mod ListLemmas
+pub mod MarkLemmas
+pub mod NeededLemmas
+pub mod ProducerLemmas
+pub mod RankLemmas
+pub mod RowLemmas
+pub mod TextLemmas

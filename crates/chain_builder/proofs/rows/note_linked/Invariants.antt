@@ -1,0 +1,9 @@
+use Rattle.std.proofs.Common.{ℕ, take}
+use Rattle.chain_builder.specs.Rows.{row, IsRowUpTo, AddsToRows, IsLinkedWith}
+use Rattle.chain_builder.proofs.rows.note_linked.Given as goal
+
+abbrev pub invariant-loop-key : goal.invariant-loop-key
+invariant-loop-key l = record {
+  adds : AddsToRows l.fn.table.items (IsLinkedWith l.links (take l.key-index l.keys)) l.x l.table.items;
+  rising : (b : ℕ) → IsRowUpTo l.x (row l.table.items b);
+}
