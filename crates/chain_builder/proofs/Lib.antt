@@ -12,3 +12,4 @@ pub mod ProducerLemmas
 pub mod RankLemmas
 pub mod RowLemmas
 pub mod TextLemmas
+pub mod UniqueLemmas

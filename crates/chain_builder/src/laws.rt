@@ -33,3 +33,9 @@ pub fn ascending_lists_are_equal()
 pub fn fault_is_named()
     ensures { (steps : List StepDecl) (items : List ItemDecl) (finals : List ℕ) (fault : ChainFault) → IsNumbered steps items finals → (fault ≡ ChainFault.Memory → ⊥) → IsFault steps items finals fault → IsNamed steps items fault }
 {}
+
+/// A law: a chain has at most one fault, want of memory aside, so the clause on a refusal says which
+/// fault is answered. It does nothing.
+pub fn fault_is_the_only_one()
+    ensures { (steps : List StepDecl) (items : List ItemDecl) (finals : List ℕ) (fault other : ChainFault) → (fault ≡ ChainFault.Memory → ⊥) → (other ≡ ChainFault.Memory → ⊥) → IsFault steps items finals fault → IsFault steps items finals other → fault ≡ other }
+{}

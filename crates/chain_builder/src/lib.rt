@@ -23,7 +23,10 @@ mod text;
 
 pub use build::build_chain;
 pub use fault::ChainFault;
-pub use laws::{ascending_lists_are_equal, cycle_goes_round, fault_is_named, no_fault_is_accepted};
+pub use laws::{
+    ascending_lists_are_equal, cycle_goes_round, fault_is_named, fault_is_the_only_one,
+    no_fault_is_accepted,
+};
 pub use numbered::is_numbered;
 pub use plan::Plan;
 
