@@ -1,0 +1,5 @@
+use Rattle.ext_parser.proofs.Numbers.{project-numbered}
+use Rattle.ext_parser.proofs.laws.project_is_numbered.Goals as goal
+
+pub returns : goal.returns
+returns c = project-numbered c.args.bytes.now
