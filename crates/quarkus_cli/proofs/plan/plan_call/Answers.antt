@@ -1,0 +1,31 @@
+use Rattle.std.proofs.Common.{refl, subst}
+use Rattle.quarkus_cli.specs.declared.command.Command.TheVariants.{Plan}
+use Rattle.ext_parser.specs.ProjectOfTheBytes.{project}
+use Rattle.ext_parser.proofs.Cut.{project_cut}
+use Rattle.quarkus_cli.specs.Outcomes.{CommandOutcome, FirstPart, OfRead, OfChain, OfPlan}
+use Rattle.quarkus_cli.proofs.Ends.{told_absent, told_nothing, stopped_read, read_memory, read_delivered}
+use Rattle.quarkus_cli.proofs.Plans.{plan_allows}
+use Rattle.quarkus_cli.proofs.plan.plan_call.Goals as goal
+
+pub returns-in-Err : goal.returns-in-Err
+returns-in-Err g c =
+    record {
+      answers = stopped_read _ _ c.args.file.now _ _ _ c.in-Err.status (told_nothing (FirstPart (Plan c.args.file.now)) _ (λ m. refl))
+          (told_absent (CommandOutcome (Plan c.args.file.now)) c.args.file.now _ (λ m none. rw none refl)) c.in-Err.ensures.err;
+    }
+
+pub returns-in-Ok-plan_outcome : goal.returns-in-Ok-plan_outcome
+returns-in-Ok-plan_outcome g c =
+    let o = c.in-Ok-plan_outcome.outcome in
+    record {
+      answers = read_delivered _ _ c.args.file.now c.in-Ok.bytes _ o _ _ _ _ _ c.deliver.result c.in-Ok.ensures.ok
+          (plan_allows c.args.file.now c.in-Ok.bytes 1048577 _ o project_cut
+          (subst (λ bytes. OfRead (OfChain OfPlan) (project bytes) o) c.as_slice.ensures c.in-Ok-plan_outcome.ensures) c.in-Ok.ensures.ok.bytes)
+          c.deliver.ensures;
+    }
+
+pub returns : goal.returns
+returns g c =
+    record {
+      answers = read_memory _ _ c.args.file.now c.in-Ok.bytes _ _ _ _ c.in-Ok.ensures.ok (told_nothing (FirstPart (Plan c.args.file.now)) _ (λ m. refl));
+    }
