@@ -1,0 +1,4 @@
+pub mod Elements
+pub mod ItemKinds
+pub mod Ranks
+pub mod Rising
