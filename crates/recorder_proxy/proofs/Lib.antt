@@ -1,0 +1,4 @@
+pub mod Coming
+pub mod Depth_first
+pub mod Parted
+pub mod Walk
