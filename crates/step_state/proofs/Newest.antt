@@ -1,0 +1,44 @@
+-- The newest value of a name, looked for from the end.
+use Rattle.std.proofs.Common.{◌≡◌, ℕ, suc, ◌<◌, List, [], ◌∷◌, ◌++◌, length, take, get_or, cond, true, false, Option, Some, None, refl, sym, ap, subst, ◌∙◌}
+use Rattle.std.proofs.Math.Seq.{take-suc}
+use Rattle.std.specs.Str.{bytes_eq}
+use Rattle.item_types.specs.declared.value.Value.{Value}
+use Rattle.step_state.specs.Found.{found, or_else}
+
+or_else-assoc : (a b c : Option Value) → or_else (or_else a b) c ≡ or_else a (or_else b c)
+or_else-assoc None b c = refl
+or_else-assoc (Some v) b c = refl
+
+or_else-none : (a : Option Value) → or_else a None ≡ a
+or_else-none None = refl
+or_else-none (Some v) = refl
+
+-- the last entry is looked at first
+found-snoc : (es : List (List ℕ × Value)) (e : List ℕ × Value) (name : List ℕ) →
+    found (es ++ e ∷ []) name ≡ or_else (cond (bytes_eq e.0 name) (Some e.1) None) (found es name)
+found-snoc [] e name = sym (or_else-none (cond (bytes_eq e.0 name) (Some e.1) None))
+found-snoc (x ∷ es) e name =
+    ap (λ o. or_else o (cond (bytes_eq x.0 name) (Some x.1) None)) (found-snoc es e name) ∙
+    or_else-assoc (cond (bytes_eq e.0 name) (Some e.1) None) (found es name) (cond (bytes_eq x.0 name) (Some x.1) None)
+
+found-take : (es : List (List ℕ × Value)) (name : List ℕ) (n : ℕ) (d : List ℕ × Value) → n < length es →
+    found (take (suc n) es) name ≡ or_else (cond (bytes_eq (get_or es n d).0 name) (Some (get_or es n d).1) None) (found (take n es) name)
+found-take es name n d h = ap (λ (l : List (List ℕ × Value)). found l name) (take-suc es n d h) ∙ found-snoc (take n es) (get_or es n d) name
+
+-- an entry of another name
+pub newest_next : (es : List (List ℕ × Value)) (name : List ℕ) (m n : ℕ) (e : List ℕ × Value) → n < length es → m ≡ suc n → e ≡ get_or es n e → bytes_eq e.0 name ≡ false → found (take m es) name ≡ found es name →
+    found (take n es) name ≡ found es name
+newest_next es name m n e h is at other so_far =
+    let step : found (take m es) name ≡ or_else (cond (bytes_eq (get_or es n e).0 name) (Some (get_or es n e).1) None) (found (take n es) name) =
+    ap (λ k. found (take k es) name) is ∙ found-take es name n e h in
+    let differs : bytes_eq (get_or es n e).0 name ≡ false = subst (λ (x : List ℕ × Value). bytes_eq x.0 name ≡ false) at other in
+    sym (step ∙ ap (λ b. or_else (cond b (Some (get_or es n e).1) None) (found (take n es) name)) differs) ∙ so_far
+
+-- an entry of this name
+pub newest_there : (es : List (List ℕ × Value)) (name : List ℕ) (m n : ℕ) (e : List ℕ × Value) → n < length es → m ≡ suc n → e ≡ get_or es n e → bytes_eq e.0 name ≡ true → found (take m es) name ≡ found es name →
+    Some e.1 ≡ found es name
+newest_there es name m n e h is at same so_far =
+    let step : found (take m es) name ≡ or_else (cond (bytes_eq (get_or es n e).0 name) (Some (get_or es n e).1) None) (found (take n es) name) =
+    ap (λ k. found (take k es) name) is ∙ found-take es name n e h in
+    let fits : bytes_eq (get_or es n e).0 name ≡ true = subst (λ (x : List ℕ × Value). bytes_eq x.0 name ≡ true) at same in
+    ap (λ (x : List ℕ × Value). Some x.1) at ∙ (sym (step ∙ ap (λ b. or_else (cond b (Some (get_or es n e).1) None) (found (take n es) name)) fits) ∙ so_far)

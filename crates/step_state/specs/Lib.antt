@@ -1,0 +1,6 @@
+pub mod Evaluation
+pub mod Found
+pub mod Operations
+pub mod Scoped
+pub mod Size
+pub mod Spending
