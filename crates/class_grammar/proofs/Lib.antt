@@ -1,0 +1,3 @@
+pub mod Right
+pub mod Grammars
+pub mod Files

@@ -1,0 +1,10 @@
+pub mod Units
+pub mod Chars
+pub mod Texts
+pub mod Firsts
+pub mod Shows
+pub mod Keys
+pub mod Maps
+pub mod Grows
+pub mod Steps
+pub mod Once
