@@ -1,0 +1,9 @@
+pub mod FineExpressions
+pub mod Forms
+pub mod Leaves
+pub mod Origins
+pub mod Recorded
+pub mod Sound
+pub mod SteadyStatements
+pub mod Steps
+pub mod Taking

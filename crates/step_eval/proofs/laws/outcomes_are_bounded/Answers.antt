@@ -1,0 +1,5 @@
+use Rattle.step_eval.proofs.SteadyStatements.{outcome_is_bounded}
+use Rattle.step_eval.proofs.laws.outcomes_are_bounded.Goals as goal
+
+pub returns : goal.returns
+returns c = outcome_is_bounded

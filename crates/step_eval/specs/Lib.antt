@@ -1,0 +1,9 @@
+pub mod BodyMeaning
+pub mod BoundedOutcome
+pub mod Expressions
+pub mod KeptCall
+pub mod KnownProxies
+pub mod NextNode
+pub mod Setting
+pub mod Statements
+pub mod Taken
