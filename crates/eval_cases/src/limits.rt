@@ -1,0 +1,75 @@
+// The limits of an evaluation, from both sides.
+
+use crate::given::{ends, fails, outcome, outcome_of};
+use crate::trees::{bind, nested, nulls, one, sum, text, variable};
+use item_types::{Memory, Seq, Value};
+use std::alloc::Global;
+use std::test::Fail;
+use step_eval::{Outcome, Reason};
+use syntax_tree::{Expr, Stmt};
+
+/// The outcome of `let a = e;`.
+fn binding(alloc: Global, value: Expr) -> Result<Outcome, Memory> {
+    let stmt = bind(alloc, "a", value)?;
+    let stmts = one(alloc, stmt)?;
+    outcome(alloc, stmts)
+}
+
+#[test]
+fn a_value_has_a_depth_of_64(rt: HostRuntime) -> Result<(), Fail> {
+    assert!(rt; ends(&binding(rt.alloc(), nested(rt.alloc(), 63)?)?));
+    let found = binding(rt.alloc(), nested(rt.alloc(), 64)?)?;
+    assert!(rt; fails(&found, Reason::TooDeep { at: 1 }));
+    Ok(())
+}
+
+// A list of n nulls counts n cells for its parts, and then n + 1.
+#[test]
+fn a_step_makes_65_536_cells(rt: HostRuntime) -> Result<(), Fail> {
+    assert!(rt; ends(&binding(rt.alloc(), nulls(rt.alloc(), 1, 32_767)?)?));
+    let found = binding(rt.alloc(), nulls(rt.alloc(), 1, 32_768)?)?;
+    assert!(rt; fails(&found, Reason::TooManyCells));
+    Ok(())
+}
+
+/// `let a = a + a;`
+fn join(alloc: Global) -> Result<Stmt, Memory> {
+    let first = variable(alloc, 3, "a")?;
+    let second = variable(alloc, 5, "a")?;
+    let join = sum(alloc, first, 4, second)?;
+    bind(alloc, "a", join)
+}
+
+/// The outcome of a text of 16 letters that is joined with itself so many times.
+fn joins(alloc: Global, count: u32) -> Result<Outcome, Memory> {
+    let letters = text(alloc, 3, "sixteen letters.")?;
+    let first = bind(alloc, "a", letters)?;
+    let mut stmts = one(alloc, first)?;
+    for _i in 0..count {
+        stmts.push(join(alloc)?)?;
+    }
+    outcome(alloc, stmts)
+}
+
+#[test]
+fn a_text_has_65_535_bytes(rt: HostRuntime) -> Result<(), Fail> {
+    assert!(rt; ends(&joins(rt.alloc(), 11)?));
+    assert!(rt; fails(&joins(rt.alloc(), 12)?, Reason::TextTooLong));
+    Ok(())
+}
+
+/// The outcome of an empty body where so many nulls were taken.
+fn taking(alloc: Global, count: u32) -> Result<Outcome, Memory> {
+    let mut taken = Seq::new(alloc);
+    for _i in 0..count {
+        taken.push(Value::Null)?;
+    }
+    outcome_of(alloc, taken, Seq::new(alloc))
+}
+
+#[test]
+fn a_step_takes_16_384_cells(rt: HostRuntime) -> Result<(), Fail> {
+    assert!(rt; ends(&taking(rt.alloc(), 16_384)?));
+    assert!(rt; fails(&taking(rt.alloc(), 16_385)?, Reason::TooManyTaken(0)));
+    Ok(())
+}
