@@ -1,0 +1,6 @@
+use Rattle.std.proofs.Common.{◌≡◌, drop}
+use Rattle.lang_names.specs.Known as spec
+use Rattle.lang_names.proofs.declared.consumed.Given as goal
+
+abbrev pub invariant-loop-entry : goal.invariant-loop-entry
+invariant-loop-entry l = spec.consumed l.consumes l.item ≡ spec.consumed (drop l.entry-index l.consumes) l.item

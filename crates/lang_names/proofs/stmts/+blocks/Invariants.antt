@@ -1,0 +1,9 @@
+use Rattle.std.proofs.Common.{◌≡◌, drop, map}
+use Rattle.lang_names.specs.Known.{known_of}
+use Rattle.lang_names.specs.Stmts.{run, passing, Extends}
+use Rattle.lang_names.proofs.stmts.+blocks.Given as goal
+
+abbrev pub invariant-check_block-loop-stmt : goal.invariant-check_block-loop-stmt
+invariant-check_block-loop-stmt l =
+    (run (map (passing (known_of l.setting)) l.stmts) l.fn.scope.items ≡ run (map (passing (known_of l.setting)) (drop l.stmt-index l.stmts)) l.scope.items)
+    × Extends l.fn.scope.items l.scope.items

@@ -1,0 +1,254 @@
+ghost use Rattle.std.specs.Prelude.{◌≡◌, ◌++◌, ◌∷◌, [], slice_get, Ok, OnOk, List, ℕ, map};
+ghost use Rattle.lang_names.specs.Known.{known_of, params_of, method_of};
+ghost use Rattle.lang_names.specs.Checked.{and_also};
+ghost use Rattle.lang_names.specs.Exprs.{expr_right};
+ghost use Rattle.lang_names.specs.Stmts as spec;
+ghost use Rattle.lang_names.specs.Stmts.{Passes, Rights, Extends, leaves};
+
+use crate::declared::{carries_value, contains, produced};
+use crate::exprs::{NO_NUMBER, check_expr, check_exprs};
+use crate::setting::Setting;
+use crate::wrong::{NameFault, Wrong, fitting, known, later};
+use item_types::{Same, Seq, Text};
+use std::alloc::Global;
+use syntax_tree::{Expr, Invoke, Stmt};
+
+/// How many parameters that method has; none where there is no such method.
+fn params_of(setting: &Setting<'_>, recorder: u32, method: u32) -> usize
+    ensures { result ≡ params_of (method_of (slice_get setting.now.names.now.recorders recorder) method) }
+{
+    match setting.names.recorders.as_slice().get(recorder as usize) {
+        Some(decl) => match decl.methods.as_slice().get(method as usize) {
+            Some(sig) => sig.params.len(),
+            None => 0,
+        },
+        None => 0,
+    }
+}
+
+fn check_call(setting: &Setting<'_>, scope: &[Text], call: &Invoke) -> Result<(), Wrong>
+    ensures { result ≡ spec.call_right (known_of setting.now) scope.now call.now }
+{
+    fitting(setting.records, call.at)?;
+    known(call.recorder != NO_NUMBER, later(call.at, 1))?;
+    known(call.method != NO_NUMBER, later(call.at, 3))?;
+    let params = params_of(setting, call.recorder, call.method);
+    fitting(params == call.args.len(), later(call.at, 3))?;
+    check_exprs(setting, scope, call.args.as_slice())
+}
+
+fn check_produce(
+    setting: &Setting<'_>,
+    scope: &[Text],
+    at: u32,
+    item: u32,
+    value: &Expr,
+) -> Result<(), Wrong>
+    ensures { result ≡ spec.produce_right (known_of setting.now) scope.now at item value.now }
+{
+    known(item != NO_NUMBER, later(at, 1))?;
+    fitting(produced(setting.produces, item), later(at, 1))?;
+    fitting(carries_value(setting.names, item), later(at, 1))?;
+    check_expr(setting, scope, value)
+}
+
+fn check_both(
+    setting: &Setting<'_>,
+    scope: &[Text],
+    first: Result<(), Wrong>,
+    value: &Expr,
+) -> Result<(), Wrong>
+    ensures { result ≡ and_also first (expr_right (known_of setting.now) scope.now value.now) }
+{
+    first?;
+    check_expr(setting, scope, value)
+}
+
+/// The answer for a statement that brings no name in scope.
+fn leaving(checked: Result<(), Wrong>) -> Result<(), NameFault>
+    ensures told { (s : List (List ℕ)) → Passes (leaves checked s) result s }
+{
+    match checked {
+        Ok(()) => Ok(()),
+        Err(wrong) => Err(NameFault::Wrong(wrong)),
+    }
+}
+
+/// Brings a name in scope.
+fn bind(alloc: Global, scope: &mut Vec<Text>, name: &Text) -> Result<(), NameFault>
+    ensures told { Passes (Ok (scope.old.items ++ name.now ∷ [])) result scope.new.items }
+    ensures kept { OnOk result (Extends scope.old.items scope.new.items) }
+{
+    let name = name.try_copy(alloc)?;
+    match scope.push(name) {
+        Ok(()) => Ok(()),
+        Err(_) => Err(NameFault::Memory),
+    }
+}
+
+/// Brings a name in scope where a test was right.
+fn bind_checked(
+    alloc: Global,
+    scope: &mut Vec<Text>,
+    checked: Result<(), Wrong>,
+    name: &Text,
+) -> Result<(), NameFault>
+    ensures told { Passes (leaves checked (scope.old.items ++ name.now ∷ [])) result scope.new.items }
+    ensures kept { OnOk result (Extends scope.old.items scope.new.items) }
+{
+    match checked {
+        Ok(()) => bind(alloc, scope, name),
+        Err(wrong) => Err(NameFault::Wrong(wrong)),
+    }
+}
+
+/// The answer for a test.
+fn answer(checked: Result<(), Wrong>) -> Result<(), NameFault>
+    ensures told { Rights checked result }
+{
+    match checked {
+        Ok(()) => Ok(()),
+        Err(wrong) => Err(NameFault::Wrong(wrong)),
+    }
+}
+
+/// Checks the names of a statement, and brings the name of a `let` in scope.
+#[cycle(blocks)]
+fn check_stmt(
+    alloc: Global,
+    setting: &Setting<'_>,
+    scope: &mut Vec<Text>,
+    stmt: &Stmt,
+) -> Result<(), NameFault>
+    ensures told { Passes (spec.passing (known_of setting.now) stmt.now scope.old.items) result scope.new.items }
+    ensures kept { OnOk result (Extends scope.old.items scope.new.items) }
+{
+    match stmt {
+        Stmt::Let { at: _, name, value } => {
+            let checked = check_expr(setting, scope.as_slice(), value);
+            bind_checked(alloc, scope, checked, name)
+        }
+        Stmt::LetCall { at: _, name, call } => {
+            let checked = check_call(setting, scope.as_slice(), call);
+            bind_checked(alloc, scope, checked, name)
+        }
+        Stmt::For {
+            at: _,
+            name,
+            list,
+            block,
+        } => {
+            let checked = check_expr(setting, scope.as_slice(), list);
+            check_loop(alloc, setting, scope, checked, name, block.as_slice())
+        }
+        Stmt::If {
+            at: _,
+            cond,
+            block,
+            other: None,
+        } => {
+            let checked = check_expr(setting, scope.as_slice(), cond);
+            check_guarded(alloc, setting, scope, checked, block.as_slice())
+        }
+        Stmt::If {
+            at: _,
+            cond,
+            block,
+            other: Some(other),
+        } => {
+            let checked = check_expr(setting, scope.as_slice(), cond);
+            check_guarded(alloc, setting, scope, checked, block.as_slice())?;
+            check_block(alloc, setting, scope, other.as_slice())
+        }
+        Stmt::CallOf { call } => leaving(check_call(setting, scope.as_slice(), call)),
+        Stmt::Produce { at, item, value } => {
+            leaving(check_produce(setting, scope.as_slice(), *at, *item, value))
+        }
+        Stmt::FailWith { at: _, value } => leaving(check_expr(setting, scope.as_slice(), value)),
+        Stmt::Print { at: _, value } => leaving(check_expr(setting, scope.as_slice(), value)),
+        Stmt::Return { at: _, value } => leaving(check_expr(setting, scope.as_slice(), value)),
+        Stmt::Add { at: _, list, value } => {
+            let first = check_expr(setting, scope.as_slice(), list);
+            leaving(check_both(setting, scope.as_slice(), first, value))
+        }
+        Stmt::SetStatic { at, field, value } => {
+            let first = known(contains(setting.statics, field), later(*at, 2));
+            leaving(check_both(setting, scope.as_slice(), first, value))
+        }
+        Stmt::SetSelf {
+            at: _,
+            dot,
+            field,
+            value,
+        } => {
+            let first = known(contains(setting.fields, field), later(*dot, 1));
+            leaving(check_both(setting, scope.as_slice(), first, value))
+        }
+        Stmt::SetField {
+            at,
+            dot: _,
+            name,
+            field: _,
+            value,
+        } => {
+            let first = known(contains(scope.as_slice(), name), *at);
+            leaving(check_both(setting, scope.as_slice(), first, value))
+        }
+    }
+}
+
+/// The statements of a `for`, behind the test of its list.
+#[cycle(blocks)]
+fn check_loop(
+    alloc: Global,
+    setting: &Setting<'_>,
+    scope: &mut Vec<Text>,
+    checked: Result<(), Wrong>,
+    name: &Text,
+    block: &[Stmt],
+) -> Result<(), NameFault>
+    ensures told { Passes (leaves (and_also checked (spec.block_right (map (spec.passing (known_of setting.now)) block.now) (scope.old.items ++ name.now ∷ []))) scope.old.items) result scope.new.items }
+    ensures kept { OnOk result (scope.new.items ≡ scope.old.items) }
+{
+    answer(checked)?;
+    let outer = scope.len();
+    bind(alloc, scope, name)?;
+    check_block(alloc, setting, scope, block)?;
+    scope.truncate(outer);
+    Ok(())
+}
+
+/// The block of an `if`, behind the test of its condition.
+#[cycle(blocks)]
+fn check_guarded(
+    alloc: Global,
+    setting: &Setting<'_>,
+    scope: &mut Vec<Text>,
+    checked: Result<(), Wrong>,
+    block: &[Stmt],
+) -> Result<(), NameFault>
+    ensures told { Rights (and_also checked (spec.block_right (map (spec.passing (known_of setting.now)) block.now) scope.old.items)) result }
+    ensures kept { OnOk result (scope.new.items ≡ scope.old.items) }
+{
+    answer(checked)?;
+    check_block(alloc, setting, scope, block)
+}
+
+/// Checks the names of a block's statements, and leaves the scope as it was.
+#[cycle(blocks)]
+pub(crate) fn check_block(
+    alloc: Global,
+    setting: &Setting<'_>,
+    scope: &mut Vec<Text>,
+    stmts: &[Stmt],
+) -> Result<(), NameFault>
+    ensures told { Rights (spec.block_right (map (spec.passing (known_of setting.now)) stmts.now) scope.old.items) result }
+    ensures kept { OnOk result (scope.new.items ≡ scope.old.items) }
+{
+    let outer = scope.len();
+    for stmt in stmts {
+        check_stmt(alloc, setting, scope, stmt)?;
+    }
+    scope.truncate(outer);
+    Ok(())
+}
