@@ -1,0 +1,7 @@
+pub mod Place
+pub mod Forms
+pub mod Naming
+pub mod Table
+pub mod Sentence
+pub mod Rules
+pub mod Text

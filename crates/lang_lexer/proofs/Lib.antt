@@ -1,0 +1,6 @@
+mod Turns
+mod Lexed
+mod Counted
+mod Written
+mod Taken
+mod Lexing

@@ -1,0 +1,5 @@
+pub mod Words
+pub mod Numbers
+pub mod Quotes
+pub mod Tokens
+pub mod Kinds
