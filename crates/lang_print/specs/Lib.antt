@@ -1,0 +1,4 @@
+pub mod Naming
+pub mod Tokens
+pub mod Canonical
+pub mod Lines

@@ -1,0 +1,15 @@
+//! The language of steps and recorders: bodies and methods are read from their text, refused at
+//! the first token that is wrong, and printed as their canonical text.
+#![tactic(auto)]
+
+mod judge;
+mod parse;
+mod print;
+
+pub use lang_grammar::LangFault;
+pub use parse::{parse_body, parse_method};
+pub use print::{print_body, print_method};
+pub use syntax_tree::{Body, Expr, Invoke, Link, Method, Methods, Stmt};
+
+#[cfg(test)]
+mod tests;
