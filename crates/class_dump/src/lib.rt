@@ -1,0 +1,13 @@
+//! The text of a class file: its head, its pool, its fields and methods with their instructions, and
+//! its attributes, a line each.
+#![tactic(auto)]
+
+mod code;
+mod entry;
+mod hex;
+mod name;
+mod opcode;
+mod text;
+
+pub use opcode::{Instruction, Opcode, decode};
+pub use text::dump;
