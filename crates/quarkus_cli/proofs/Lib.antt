@@ -1,7 +1,9 @@
 pub mod Writing
 pub mod Ends
 pub mod Plans
+pub mod Dumps
 pub mod Tops
 pub mod WordLaws
 pub mod Causes
 pub mod OneOutcome
+pub mod OneDump

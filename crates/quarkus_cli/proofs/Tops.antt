@@ -5,7 +5,7 @@ use Rattle.aug_base.specs.Files.{Files}
 use Rattle.aug_base.specs.Shelves.{Shelved}
 use Rattle.aug_base.specs.Sinks.{Taken}
 use Rattle.quarkus_cli.specs.declared.command.Command.{Command}
-use Rattle.quarkus_cli.specs.declared.command.Command.TheVariants.{Plan}
+use Rattle.quarkus_cli.specs.declared.command.Command.TheVariants.{Plan, Dump}
 use Rattle.quarkus_cli.specs.declared.command.WordsErr.{WordsErr}
 use Rattle.quarkus_cli.specs.declared.command.WordsErr.TheVariants.{Refused, Memory}
 use Rattle.quarkus_cli.specs.Words.{command_of}
@@ -34,6 +34,7 @@ dispatched said command before now status cause a =
 
 first_nothing : (command : Command) (m : Files) → FirstPart command m nothing
 first_nothing (Plan file) m = refl
+first_nothing (Dump file) m = refl
 
 words_nothing : (o : Option Command) (files : Option Files) → FirstPartBy o files nothing
 words_nothing None files = refl

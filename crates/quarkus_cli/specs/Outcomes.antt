@@ -1,18 +1,23 @@
 -- Outcome of a command, where nothing outside fails: the status, the text and the files that it writes, as a relation of the words and the files on the shelf. This project's own.
-use Rattle.std.specs.Prelude.{◌≡◌, ◌≢◌, ◌⊎◌, ℕ, List, [], ◌++◌, codes, Option, Some, None, IfSome, Result, Ok, Err}
+use Rattle.std.specs.Prelude.{◌≡◌, ◌≢◌, ◌⊎◌, ℕ, ◌<◌, ◌≤◌, List, [], ◌++◌, length, codes, Option, Some, None, IfSome, Result, Ok, Err}
 use Rattle.aug_base.specs.Files.{Files}
 use Rattle.chain_builder.specs.Accepted.{IsAccepted}
 use Rattle.chain_builder.specs.Fault.{IsFault}
 use Rattle.chain_builder.specs.FaultText.{fault_text}
 use Rattle.chain_builder.specs.declared.fault.ChainFault.{ChainFault}
 use Rattle.chain_builder.specs.declared.fault.ChainFault.TheVariants.{Memory}
+use Rattle.class_dump.specs.Dump.{dump_text}
+use Rattle.class_grammar.specs.Grammar.{Spells, IsStuck}
+use Rattle.class_pool.specs.declared.class.Class.{Class}
+use Rattle.class_pool.specs.declared.fault.ClassFault.{ClassFault}
+use Rattle.class_grammar.specs.FaultText as class_fault
 use Rattle.ext_parser.specs.ProjectOfTheBytes.{project}
 use Rattle.ext_parser.specs.declared.fault.ProjectFault.{ProjectFault}
 use Rattle.ext_parser.specs.declared.project.Project.{Project}
 use Rattle.build_report.specs.PlanText.{IsPlanText}
 use Rattle.build_report.specs.ProjectFaultText.{project_fault_text}
 use Rattle.quarkus_cli.specs.declared.command.Command.{Command}
-use Rattle.quarkus_cli.specs.declared.command.Command.TheVariants.{Plan}
+use Rattle.quarkus_cli.specs.declared.command.Command.TheVariants.{Plan, Dump}
 use Rattle.quarkus_cli.specs.declared.outcome.Outcome.{Outcome}
 use Rattle.quarkus_cli.specs.Words.{command_of}
 use Rattle.quarkus_cli.specs.Usage.{usage}
@@ -32,6 +37,10 @@ no_project fault = said 2 (codes "project refused: " ++ project_fault_text fault
 
 abbrev pub no_chain : Project → ChainFault → Outcome
 no_chain p fault = said 3 (codes "chain refused: " ++ fault_text p.steps p.names.items fault ++ codes "\n")
+
+-- a file of that name is no class file
+abbrev pub no_class : List ℕ → List ℕ → Outcome
+no_class name fault = said 9 (codes "classes refused: " ++ (name ++ codes ": " ++ fault) ++ codes "\n")
 
 -- a name that is read isn't on the shelf
 abbrev pub absent : Outcome
@@ -58,13 +67,33 @@ OfFile Then (Some bytes) o = OfRead Then (project bytes) o
 abbrev pub OfPlan : Project → Outcome → Type 0
 OfPlan p o = (text : List ℕ) × IsPlanText p.app p.steps p.finals text × (o ≡ said 0 text)
 
+-- the dump of the class that a file's bytes spell; else where they go wrong first
+abbrev pub OfClass : List ℕ → List ℕ → Outcome → Type 0
+OfClass name bytes o =
+    ((c : Class) × Spells bytes c × (o ≡ said 0 (dump_text c)))
+    ⊎ ((fault : ClassFault) × IsStuck bytes fault × (o ≡ no_class name (class_fault.fault_text fault)))
+
+-- what `Then` says of the bytes where they are at most so many; else `large`
+abbrev pub OfSize : ℕ → (List ℕ → Outcome → Type 0) → Outcome → List ℕ → Outcome → Type 0
+OfSize limit Then large bytes o = ((limit < length bytes) × (o ≡ large)) ⊎ ((length bytes ≤ limit) × Then bytes o)
+
+-- what comes of the bytes of a class file of that name, which has at most 2,000,000
+abbrev pub OfClassFile : List ℕ → List ℕ → Outcome → Type 0
+OfClassFile name bytes o = OfSize 2_000_000 (OfClass name) (no_class name (codes "too large")) bytes o
+
+abbrev pub OfDump : List ℕ → Option (List ℕ) → Outcome → Type 0
+OfDump name None o = o ≡ absent
+OfDump name (Some bytes) o = OfClassFile name bytes o
+
 -- the outcomes of a command over these files: one line for each command
 abbrev pub CommandOutcome : Command → Files → Outcome → Type 0
 CommandOutcome (Plan file) m o = OfFile (OfChain OfPlan) (m file) o
+CommandOutcome (Dump file) m o = OfDump file (m file) o
 
 -- what is done where a read stops the command: one line for each command
 abbrev pub FirstPart : Command → Files → Outcome → Type 0
 FirstPart (Plan file) m o = o ≡ nothing
+FirstPart (Dump file) m o = o ≡ nothing
 
 -- a relation to the files, over what a shelf tells; of files that aren't told nothing is said
 abbrev pub Told : (Files → Outcome → Type 0) → Option Files → Outcome → Type 0

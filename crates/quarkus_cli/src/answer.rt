@@ -2,6 +2,7 @@ ghost use Rattle.std.specs.Prelude.{map, string_bytes};
 ghost use Rattle.quarkus_cli.specs.Answers.{AnswersCommand, AnswersWords, outside};
 
 use crate::delivery::deliver_parts;
+use crate::dump::dump_call;
 use crate::plan::plan_call;
 use crate::status::{NO_MEMORY, REFUSED};
 use crate::{Command, WordsErr, read_words};
@@ -19,7 +20,7 @@ const USAGE: &str =
 ///
 /// 0: done. 1: the words have no form; the usage line. 2: the file's bytes are no project. 3: the
 /// chain has a fault. 6: a file isn't there, or a read failed. 7: a write or a put failed. 8: want
-/// of memory. `gate` is where workers may be held up.
+/// of memory. 9: a class file's bytes are no class. `gate` is where workers may be held up.
 pub fn top<R: Threads + Wait, S: Shelf, K: Sink, G: Gate + Sync>(
     rt: &R,
     alloc: Global,
@@ -50,5 +51,6 @@ fn dispatch<R: Threads + Wait, S: Shelf, K: Sink, G: Gate + Sync>(
 {
     match command {
         Command::Plan { file } => plan_call(alloc, file.as_str(), shelf, sink),
+        Command::Dump { file } => dump_call(alloc, file.as_str(), shelf, sink),
     }
 }

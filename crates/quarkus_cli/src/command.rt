@@ -6,6 +6,8 @@ use thiserror::Error;
 pub enum Command {
     /// To read the project in `file`, build its chain and print its plan.
     Plan { file: Text },
+    /// To read the class file `file` and print its dump.
+    Dump { file: Text },
 }
 
 /// Why words name no command.

@@ -1,15 +1,22 @@
-ghost use Rattle.std.specs.Prelude.{◌≡◌, ◌↔◌, ◌⊎◌, ◌++◌, ◌∷◌, ℕ, List, All, Option, Some, None, codes, true};
+ghost use Rattle.std.specs.Prelude.{◌≡◌, ◌↔◌, ◌⊎◌, ◌++◌, ◌∷◌, ◌<◌, ◌≤◌, ℕ, List, All, length, Option, Some, None, codes, true};
 ghost use Rattle.aug_base.specs.Files.{Files};
+ghost use Rattle.class_dump.specs.Dump.{dump_text};
+ghost use Rattle.class_grammar.specs.Grammar.{Spells, IsStuck};
+ghost use Rattle.class_grammar.specs.Layout.{IsBytes};
+ghost use Rattle.class_pool.specs.declared.class.Class.{Class};
+ghost use Rattle.class_pool.specs.declared.fault.ClassFault.{ClassFault};
+ghost use Rattle.class_grammar.specs.FaultText as class_fault;
 ghost use Rattle.ext_parser.specs.declared.project.Project.{Project};
 ghost use Rattle.quarkus_cli.specs.declared.command.Command.{Command};
 ghost use Rattle.quarkus_cli.specs.declared.outcome.Outcome.{Outcome};
 ghost use Rattle.quarkus_cli.specs.Words.{operands, is_option, command_of};
-ghost use Rattle.quarkus_cli.specs.Outcomes.{CommandOutcome, WordsOutcome, IsAcceptedProject};
+ghost use Rattle.quarkus_cli.specs.Outcomes.{CommandOutcome, WordsOutcome, IsAcceptedProject, said, absent, no_class};
 ghost use Rattle.quarkus_cli.specs.Answers.{Outside, Quiet, AnswersWords};
 ghost use Rattle.quarkus_cli.specs.Causes.{HoldsProject, HoldsNoProject, IsPlainWord, CanCount};
 
 use build_report::a_plan_has_one_text;
 use chain_builder::{fault_is_the_only_one, no_fault_is_accepted};
+use class_grammar::one_reading;
 
 /// A law: among the words after the command the plain ones are files, after a word `--` each is
 /// one, and another word that begins with `-` leaves no form. It does nothing.
@@ -38,6 +45,17 @@ pub fn plan_has_one_outcome()
     no_fault_is_accepted();
     fault_is_the_only_one();
     a_plan_has_one_text();
+}
+
+/// A law: over given files `dump` has one outcome, which the file alone decides: it isn't there, it
+/// is too large, its bytes spell a class, or they go wrong first at one place. It does nothing.
+pub fn a_class_file_has_one_dump()
+    ensures absent { (file : List ℕ) (m : Files) (o : Outcome) → m file ≡ None → CommandOutcome (Command.Dump file) m o → o ≡ absent }
+    ensures large { (file bytes : List ℕ) (m : Files) (o : Outcome) → m file ≡ Some bytes → 2000000 < length bytes → CommandOutcome (Command.Dump file) m o → o ≡ no_class file (codes "too large") }
+    ensures dumped { (file bytes : List ℕ) (m : Files) (c : Class) (o : Outcome) → m file ≡ Some bytes → IsBytes bytes → length bytes ≤ 2000000 → Spells bytes c → CommandOutcome (Command.Dump file) m o → o ≡ said 0 (dump_text c) }
+    ensures refused { (file bytes : List ℕ) (m : Files) (fault : ClassFault) (o : Outcome) → m file ≡ Some bytes → IsBytes bytes → length bytes ≤ 2000000 → IsStuck bytes fault → CommandOutcome (Command.Dump file) m o → o ≡ no_class file (class_fault.fault_text fault) }
+{
+    one_reading();
 }
 
 /// A law: where no read, write or put failed, the answer is the status of an outcome that the words

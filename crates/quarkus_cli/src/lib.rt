@@ -8,6 +8,7 @@
 mod answer;
 mod command;
 mod delivery;
+mod dump;
 mod laws;
 mod outcome;
 mod plan;
@@ -18,8 +19,10 @@ mod words;
 
 pub use answer::top;
 pub use command::{Command, WordsErr};
+pub use dump::dump_call;
 pub use laws::{
-    a_status_tells_its_cause, an_outcome_is_answered, operands_are_the_files, plan_has_one_outcome,
+    a_class_file_has_one_dump, a_status_tells_its_cause, an_outcome_is_answered,
+    operands_are_the_files, plan_has_one_outcome,
 };
 pub use outcome::Outcome;
 pub use plan::plan_call;

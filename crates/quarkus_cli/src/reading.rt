@@ -10,6 +10,9 @@ use std::alloc::Global;
 /// One byte more than a project file may have, so that a longer file is known to be too long.
 pub const PROJECT_LIMIT: usize = 1_048_577;
 
+/// One byte more than a class file may have.
+pub const CLASS_READ_LIMIT: usize = 2_000_001;
+
 /// A file's first `limit` bytes.
 ///
 /// # Errors

@@ -1,10 +1,10 @@
 ghost use Rattle.std.specs.Prelude.{◌≡◌, ◌++◌, codes, string_bytes, IfOk};
 ghost use Rattle.item_types.specs.Numbered.{IsNumbered};
 ghost use Rattle.chain_builder.specs.Fault.{IsFault};
-ghost use Rattle.quarkus_cli.specs.Outcomes.{said, no_project, no_chain};
+ghost use Rattle.quarkus_cli.specs.Outcomes.{said, no_project, no_chain, no_class};
 
 use crate::Outcome;
-use crate::status::{NO_CHAIN, NO_PROJECT};
+use crate::status::{NO_CHAIN, NO_CLASS, NO_PROJECT};
 use build_report::report_project;
 use chain_builder::{ChainFault, fault_is_named};
 use ext_parser::{Project, ProjectFault};
@@ -53,6 +53,20 @@ pub fn chain_refused(
     let fault = fault.text(alloc, &project.steps, &project.names.items)?;
     let line = refusal(alloc, "chain refused: ", fault.as_str())?;
     Ok(said(alloc, NO_CHAIN, line))
+}
+
+/// What comes of a file of that name that is no class file.
+///
+/// # Errors
+/// `Memory` for want of memory.
+pub fn class_refused(alloc: Global, name: &str, fault: &str) -> Result<Outcome, Memory>
+    ensures { IfOk result (λ o. o ≡ no_class name.now fault.now) }
+{
+    let mut what = String::from_str(alloc, name)?;
+    what.push_str(": ")?;
+    what.push_str(fault)?;
+    let line = refusal(alloc, "classes refused: ", what.as_str())?;
+    Ok(said(alloc, NO_CLASS, line))
 }
 
 /// A line of two parts.

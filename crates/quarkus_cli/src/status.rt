@@ -20,3 +20,6 @@ pub const FAILED: u8 = 7;
 
 /// Want of memory.
 pub const NO_MEMORY: u8 = 8;
+
+/// The bytes of a class file are no class.
+pub const NO_CLASS: u8 = 9;

@@ -1,12 +1,12 @@
 ghost use Rattle.std.specs.Prelude.{◌≡◌, ◌⊎◌, ◌++◌, [], ◌∷◌, Ok, Err, map, string_bytes, ok_or, OnOk};
-ghost use Rattle.quarkus_cli.specs.Words.{command_of, command_named, operands, is_option};
+ghost use Rattle.quarkus_cli.specs.Words.{command_of, command_named, command_of_one, operands, is_option};
 
 use crate::{Command, WordsErr};
 use item_types::{Memory, Seq, Text};
 use std::alloc::Global;
 
-/// The command that the words after the program's name spell: `plan FILE`. The first word is the
-/// command. After a word `--` each word is a file; before it a word that begins with `-` and is
+/// The command that the words after the program's name spell: `plan FILE` or `dump FILE`. The first
+/// word is the command. After a word `--` each word is a file; before it a word that begins with `-` and is
 /// longer than one character is refused.
 ///
 /// # Errors
@@ -28,17 +28,24 @@ fn name_command(alloc: Global, word: &str, files: &[Text]) -> Result<Command, Wo
     ensures { (result ≡ Err WordsErr.Memory) ⊎ (result ≡ ok_or (command_named word.now files.now) WordsErr.Refused) }
 {
     match files {
-        [file] => {
-            if word == "plan" {
-                match Text::of(alloc, file.as_str()) {
-                    Ok(file) => Ok(Command::Plan { file }),
-                    Err(_) => Err(WordsErr::Memory),
-                }
-            } else {
-                Err(WordsErr::Refused)
-            }
-        }
+        [file] => match Text::of(alloc, file.as_str()) {
+            Ok(file) => name_of_one(word, file),
+            Err(_) => Err(WordsErr::Memory),
+        },
         _ => Err(WordsErr::Refused),
+    }
+}
+
+/// The command of that name over one file.
+fn name_of_one(word: &str, file: Text) -> Result<Command, WordsErr>
+    ensures { result ≡ ok_or (command_of_one word.now file) WordsErr.Refused }
+{
+    if word == "plan" {
+        Ok(Command::Plan { file })
+    } else if word == "dump" {
+        Ok(Command::Dump { file })
+    } else {
+        Err(WordsErr::Refused)
     }
 }
 
