@@ -1,5 +1,5 @@
 -- The answer for a text is the tree of a sentence whose names are right, or the first fault.
-use Rattle.std.proofs.Common.{◌≡◌, ℕ, Bool, List, Result, Ok, Err, refl, sym, ap, subst, ◌∙◌}
+use Rattle.std.proofs.Common.{◌≡◌, ℕ, Bool, List, Result, Ok, Err, refl, sym, ap, subst, ◌∙◌, ◌⊎◌, inl, inr}
 use Rattle.std.specs.Prelude.{IfOk, ◌≢◌}
 use Rattle.item_types.specs.declared.decl.Names.{Names}
 use Rattle.syntax_tree.specs.declared.tree.Stmt.{Stmt}
@@ -111,3 +111,22 @@ module _ {A : Type 0} (make : List Stmt → A) (of : A → List Stmt) (given : (
 
     pub first : (f : LangFault) → FirstFault step names check text f → Told (Err f) r
     first f is = subst (λ (o : Result A LangFault). Told o r) (answer_err f is) h
+
+  -- ---- one answer
+
+  either_by : (o : Result A LangFault) → answer make step names check text ≡ o → ((a : A) × IsRight step names check (of a) text) ⊎ ((f : LangFault) × FirstFault step names check text f)
+  unfolding answer
+  either_by (Ok a) h = inl (a, ok_of (of_text step names text) a refl h)
+  either_by (Err f) h = inr (f, err_of (of_text step names text) f refl h)
+
+  pub either : ((a : A) × IsRight step names check (of a) text) ⊎ ((f : LangFault) × FirstFault step names check text f)
+  either = either_by (answer make step names check text) refl
+
+  pub not_both : (a : A) (f : LangFault) → IsRight step names check (of a) text → FirstFault step names check text f → ⊥
+  not_both a f p q = let e = sym (answer_ok a p) ∙ answer_err f q in cc
+
+  pub one_tree : (a b : A) → IsRight step names check (of a) text → IsRight step names check (of b) text → a ≡ b
+  one_tree a b p q = let e = sym (answer_ok a p) ∙ answer_ok b q in cc
+
+  pub one_fault : (f g : LangFault) → FirstFault step names check text f → FirstFault step names check text g → f ≡ g
+  one_fault f g p q = let e = sym (answer_err f p) ∙ answer_err g q in cc

@@ -3,10 +3,12 @@
 #![tactic(auto)]
 
 mod judge;
+mod law;
 mod parse;
 mod print;
 
 pub use lang_grammar::LangFault;
+pub use law::{one_body, one_method};
 pub use parse::{parse_body, parse_method};
 pub use print::{print_body, print_method};
 pub use syntax_tree::{Body, Expr, Invoke, Link, Method, Methods, Stmt};

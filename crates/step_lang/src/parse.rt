@@ -69,6 +69,8 @@ pub fn parse_body(
     ensures fault { (f : LangFault) → result ≡ Err f → f ≢ LangFault.Memory → BodyFault names.now decl.now text.now f }
     // The first fault of a text is refused, unless memory runs out.
     ensures first { (f : LangFault) → BodyFault names.now decl.now text.now f → Told (Err f) result }
+    // The answer as a function of the text, unless memory runs out.
+    ensures told { Told (answer body_made true names.now (body_right names.now decl.now) text.now) result }
 {
     read_body(alloc, text, names, decl)
 }
@@ -93,6 +95,8 @@ pub fn parse_method(
     ensures fault { (f : LangFault) → result ≡ Err f → f ≢ LangFault.Memory → MethodFault names.now recorder method text.now f }
     // The first fault of a text is refused, unless memory runs out.
     ensures first { (f : LangFault) → MethodFault names.now recorder method text.now f → Told (Err f) result }
+    // The answer as a function of the text, unless memory runs out.
+    ensures told { Told (answer method_made false names.now (method_right names.now recorder method) text.now) result }
 {
     read_method(alloc, text, names, recorder, method)
 }
