@@ -1,0 +1,10 @@
+mod Words
+mod Quotes
+mod Lines
+mod Holding
+mod Placed
+mod Unrolled
+mod Exprs
+mod Unfolded
+mod Stmts
+mod Again
