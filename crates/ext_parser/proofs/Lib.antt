@@ -1,7 +1,9 @@
-pub mod Cut
-pub mod Reading
-pub mod Bounds
 pub mod Places
-pub mod Walks
+pub mod Keys
 pub mod Whole
+pub mod Rows
+pub mod Trees
 pub mod Numbers
+pub mod Apart
+pub mod Distinct
+pub mod Sound

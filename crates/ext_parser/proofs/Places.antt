@@ -11,7 +11,7 @@ use Rattle.std.specs.Result.{is_err}
 use Rattle.std.specs.Str.{bytes_eq}
 use Rattle.std.proofs.lemmas.Map.Text.{btree_map_updates_str}
 use Rattle.std.proofs.lemmas.Slice.Eq.{bytes_eq-Decides}
-use Rattle.ext_parser.specs.SecondWalk.{place}
+use Rattle.ext_parser.specs.Place.{place}
 
 placed-in : (b : Bool) (rest all last : Option ℕ) (i : ℕ) → all ≡ option_or rest last → cond b (Some i) all ≡ option_or (cond b (Some i) rest) last
 placed-in true rest all last i is = refl

@@ -1,7 +1,7 @@
-pub mod Names
-pub mod Paths
-pub mod Entries
-pub mod Reading
-pub mod FirstWalk
+pub mod Place
+pub mod Faults
 pub mod SecondWalk
+pub mod Declarations
+pub mod ThirdWalk
 pub mod ProjectOfTheBytes
+pub mod Fits

@@ -1,7 +1,7 @@
 ghost use Rattle.std.specs.Prelude.{◌≡◌, ◌<◌, [], ◌∷◌, ◌++◌, length, IfOk, IfSome};
-ghost use Rattle.ext_parser.specs.SecondWalk.{place, item_names};
+ghost use Rattle.ext_parser.specs.Place.{place};
 
-use item_types::{ItemDecl, Memory};
+use item_types::Memory;
 use std::alloc::Global;
 use std::collections::BTreeMap;
 use std::marker::Model;
@@ -19,7 +19,7 @@ impl<'a> Model for Index<'a> {
     ghost use Rattle.std.specs.BTreeMap.{get_by};
     ghost use Rattle.std.specs.Cmp.Lexicographic.{slice_cmp};
     ghost use Rattle.std.specs.Ordering.{nat_cmp};
-    ghost use Rattle.ext_parser.specs.SecondWalk.{place};
+    ghost use Rattle.ext_parser.specs.Place.{place};
 
     ghost Value = { List (List ℕ) };
 

@@ -1,17 +1,30 @@
-ghost use Rattle.std.specs.Prelude.{◌≡◌, IfOk, take};
+ghost use Rattle.std.specs.Prelude.{◌≡◌, ℕ, List, IfOk, IsTrue, take};
 ghost use Rattle.item_types.specs.Numbered.{IsNumbered};
+ghost use Rattle.ext_parser.specs.Fits.{fits};
 ghost use Rattle.ext_parser.specs.ProjectOfTheBytes.{project};
 
-/// A reader may stop after 1,048,577 bytes: the project of a file, or its fault, is that of these.
-pub fn project_of_cut_bytes(bytes: &[u8])
-    ensures { project (take 1048577 bytes.now) ≡ project bytes.now }
+use ext_draft::{draft_of_cut_bytes, drafts_keep_limits};
+
+/// A law: a reader may stop after 1,048,577 bytes, since the project of a file, or its fault, is
+/// that of these. It does nothing.
+pub fn project_of_cut_bytes()
+    ensures { (bytes : List ℕ) → project (take 1048577 bytes) ≡ project bytes }
 {
-    let _ = bytes.len();
+    draft_of_cut_bytes();
 }
 
-/// Each item that a step or `finals` of a project names is declared, and 32 bits count them.
-pub fn project_is_numbered(bytes: &[u8])
-    ensures { IfOk (project bytes.now) (λ p. IsNumbered p.steps p.names.items p.finals) }
+/// A law: each item that a step or `finals` of a project names is declared, and 32 bits count them.
+/// It does nothing.
+pub fn project_is_numbered()
+    ensures { (bytes : List ℕ) → IfOk (project bytes) (λ p. IsNumbered p.steps p.names.items p.finals) }
 {
-    let _ = bytes.len();
+    drafts_keep_limits();
+}
+
+/// A law: a project's names are right and unique, its numbers are in range, and it keeps every
+/// limit. It does nothing.
+pub fn project_fits()
+    ensures { (bytes : List ℕ) → IfOk (project bytes) (λ p. IsTrue (fits p.names p.steps p.finals)) }
+{
+    drafts_keep_limits();
 }

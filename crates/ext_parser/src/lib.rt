@@ -2,30 +2,30 @@
 //! the first fault and its path.
 #![tactic(auto)]
 
-mod draft;
-mod entry;
-mod extension;
+mod active;
+mod build;
 mod fault;
-mod faults;
-mod file;
+mod fitting;
 mod index;
-mod item;
+mod item_numbers;
+mod known;
 mod laws;
+mod lists;
 mod mention;
-mod names;
-mod parts;
-mod paths;
+mod named;
 mod project;
 mod read;
 mod second_walk;
-mod step;
-mod steps;
-mod table;
+mod texts;
+mod third_walk;
 
+pub use ext_draft::is_name;
 pub use fault::ProjectFault;
-pub use laws::{project_is_numbered, project_of_cut_bytes};
+pub use fitting::fits;
+pub use laws::{project_fits, project_is_numbered, project_of_cut_bytes};
 pub use project::Project;
 pub use read::read_project;
+pub use step_lang::{Body, LangFault, Method, Methods};
 
 #[cfg(test)]
 mod tests;

@@ -1,4 +1,5 @@
 use item_types::{Names, Seq, StepDecl, Text};
+use step_lang::{Body, Methods};
 
 /// What a project file writes: an application's extensions, numbered in the order of the file.
 #[derive(Drop)]
@@ -13,4 +14,8 @@ pub struct Project {
     pub steps: Seq<StepDecl>,
     /// The numbers of the final items, in the order of the file.
     pub finals: Seq<u32>,
+    /// A body for each step.
+    pub bodies: Seq<Body>,
+    /// A list of methods for each recorder.
+    pub methods: Methods,
 }

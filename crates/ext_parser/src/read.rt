@@ -1,47 +1,41 @@
-ghost use Rattle.std.specs.Prelude.{◌≡◌, ◌⊎◌, Err, IfOk};
+ghost use Rattle.std.specs.Prelude.{◌≡◌, ◌⊎◌, Err, IfOk, IsTrue};
 ghost use Rattle.item_types.specs.Numbered.{IsNumbered};
+ghost use Rattle.ext_parser.specs.Fits.{fits};
 ghost use Rattle.ext_parser.specs.ProjectOfTheBytes.{project};
 
-use crate::fault::ProjectFault;
-use crate::file::file;
+use crate::build::project_of;
+use crate::fault::{ProjectFault, fault_of};
+use crate::laws::{project_fits, project_is_numbered};
 use crate::project::Project;
 use crate::second_walk::second_walk;
-use item_types::Text;
+use ext_draft::read_draft;
 use std::alloc::Global;
-use toml_keys::{ReadFault, read_table};
-
-/// A project file has at most so many bytes.
-const SIZE_LIMIT: usize = 1_048_576;
 
 #[tactic(auto, unfolding(crate::specs::ProjectOfTheBytes::project))]
 fn read_bytes(alloc: Global, bytes: &[u8]) -> Result<Project, ProjectFault>
     ensures { (result ≡ Err ProjectFault.Memory) ⊎ (result ≡ project bytes.now) }
 {
-    if bytes.len() > SIZE_LIMIT {
-        let path = Text::of(alloc, "file")?;
-        return Err(ProjectFault::Limit {
-            path,
-            found: 1_048_577,
-        });
-    }
-    let table = match read_table(alloc, bytes) {
-        Ok(table) => table,
-        Err(ReadFault::Toml) => return Err(ProjectFault::Toml),
-        Err(ReadFault::Memory) => return Err(ProjectFault::Memory),
+    let draft = match read_draft(alloc, bytes) {
+        Ok(draft) => draft,
+        Err(fault) => return Err(fault_of(fault)),
     };
-    let draft = file(alloc, &table)?;
-    second_walk(alloc, &draft)
+    second_walk(alloc, &draft)?;
+    project_of(alloc, &draft)
 }
 
 /// The project that a file's bytes write.
 ///
 /// # Errors
-/// The first fault in the file, in the order of the two walks over it: `Limit` with the path
-/// `file` where there are more than 1,048,576 bytes, then `Toml`, then those of each key and entry.
+/// The first fault in the file, in this order: `Limit` with the path `file` where there are more
+/// than 1,048,576 bytes; `Toml`; `Field`, `Limit` or `Name` of the first walk; `Repeated` or
+/// `Unknown` of the second; `Body` of the third.
 /// `Memory` for want of memory.
 pub fn read_project(alloc: Global, bytes: &[u8]) -> Result<Project, ProjectFault>
     ensures answer { (result ≡ Err ProjectFault.Memory) ⊎ (result ≡ project bytes.now) }
     ensures numbered { IfOk result (λ p. IsNumbered p.steps p.names.items p.finals) }
+    ensures fits { IfOk result (λ p. IsTrue (fits p.names p.steps p.finals)) }
 {
+    project_is_numbered();
+    project_fits();
     read_bytes(alloc, bytes)
 }

@@ -1,5 +1,8 @@
-use crate::{Project, ProjectFault, project_is_numbered, project_of_cut_bytes, read_project};
-use item_types::ItemKind;
+use crate::{
+    Project, ProjectFault, fits, project_fits, project_is_numbered, project_of_cut_bytes,
+    read_project,
+};
+use item_types::{ItemKind, Phase, Seq, Text};
 use std::alloc::Global;
 use std::test::Fail;
 
@@ -22,6 +25,26 @@ fn shown(alloc: Global, read: Result<Project, ProjectFault>) -> Result<String, F
 }
 
 const HEAD: &str = "format = 1\napp = \"x\"\n";
+
+/// The first row that isn't answered as its second column says, where the file has the row's first
+/// column between `first` and `last`; the empty text where all are.
+fn difference(
+    alloc: Global,
+    first: &str,
+    rows: &[(&str, &str)],
+    last: &str,
+) -> Result<String, Fail> {
+    for (lines, want) in rows {
+        let mut text = String::from_str(alloc, first)?;
+        text.push_str(lines)?;
+        text.push_str(last)?;
+        let answer = shown(alloc, read_project(alloc, text.as_bytes()))?;
+        if answer.as_str() != *want {
+            return Ok(format!(in alloc; "{lines} answers {answer}")?);
+        }
+    }
+    Ok(String::new(alloc))
+}
 
 /// Lines after `format` and `app`, and what a reading of the file answers.
 const READ_AFTER_HEAD: [(&str, &str); 36] = [
@@ -138,15 +161,150 @@ const READ_AFTER_HEAD: [(&str, &str); 36] = [
     ("finals = 99999999999999999999", "not TOML"),
 ];
 
+/// Keys of `config`, and what a reading of the file answers.
+const CONFIGS: [(&str, &str); 5] = [
+    ("config = 3", "config: wrong field"),
+    ("config = {a = true, b = 1}", "config[1]: wrong field"),
+    ("config = {b = 1, \"9\" = true}", "config[0]: wrong name"),
+    ("config = {\"9\" = 1}", "config[0]: wrong name"),
+    ("config = {b = false, a = true}", "ok"),
+];
+
+const EXTENSION: &str = "config = {on = true, off = false}\nextensions = [{name = \"a\", ";
+
+/// Keys of an extension, and what a reading of the file answers.
+const BEANS_AND_RECORDERS: [(&str, &str); 20] = [
+    ("beans = 1", "extensions[0].beans: wrong field"),
+    ("beans = [{}]", "extensions[0].beans[0].name: wrong field"),
+    (
+        "beans = [{name = \"new\"}]",
+        "extensions[0].beans[0].name: wrong name",
+    ),
+    (
+        "beans = [{name = \"B\", fields = [\"f\", 1]}]",
+        "extensions[0].beans[0].fields[1]: wrong field",
+    ),
+    (
+        "beans = [{name = \"B\", fields = [\"f g\", 1]}]",
+        "extensions[0].beans[0].fields[0]: wrong name",
+    ),
+    (
+        "beans = [{name = \"B\", fields = [\"f\", \"f\"]}]",
+        "extensions[0].beans[0].fields[1]: repeated",
+    ),
+    (
+        "beans = [{name = \"B\"}, {name = \"B\"}]",
+        "extensions[0].beans[1].name: repeated",
+    ),
+    (
+        "beans = [{name = \"B\", note = 1}]",
+        "extensions[0].beans[0].note: wrong field",
+    ),
+    (
+        "beans = [{name = \"B\", fields = [1,2,3,4,5,6,7,8,9,10,11,12,13,14,15,16,17]}]",
+        "extensions[0].beans[0].fields: 17 is over the limit",
+    ),
+    (
+        "recorders = [{name = \"R\", fields = [\"f\"], statics = [\"f\"]}]",
+        "ok",
+    ),
+    (
+        "recorders = [{name = \"R\", statics = \"s\"}]",
+        "extensions[0].recorders[0].statics: wrong field",
+    ),
+    (
+        "recorders = [{name = \"R\", statics = [\"s\", \"s\"]}]",
+        "extensions[0].recorders[0].statics[1]: repeated",
+    ),
+    (
+        "recorders = [{name = \"R\"}, {name = \"R\"}]",
+        "extensions[0].recorders[1].name: repeated",
+    ),
+    (
+        "recorders = [{name = \"R\", methods = [{name = \"m\"}, {name = \"m\"}]}]",
+        "extensions[0].recorders[0].methods[1].name: repeated",
+    ),
+    (
+        "recorders = [{name = \"R\", methods = [{name = \"m\", params = [\"p\", \"p\"]}]}]",
+        "extensions[0].recorders[0].methods[0].params[1]: repeated",
+    ),
+    (
+        "recorders = [{name = \"R\", methods = [{name = \"m\", params = [1,2,3,4,5,6,7,8,9]}]}]",
+        "extensions[0].recorders[0].methods[0].params: 9 is over the limit",
+    ),
+    (
+        "recorders = [{name = \"R\", methods = [{name = \"m\", body = 1}]}]",
+        "extensions[0].recorders[0].methods[0].body: wrong field",
+    ),
+    (
+        "recorders = [{name = \"R\", methods = [{name = \"m\", phase = 1}]}]",
+        "extensions[0].recorders[0].methods[0].phase: wrong field",
+    ),
+    (
+        "recorders = [{name = \"R\"}], beans = [{name = \"R\"}], items = [{name = \"R\", kind = \"empty\"}]",
+        "ok",
+    ),
+    (
+        "recorders = [{name = \"9\"}], beans = [{name = 1}]",
+        "extensions[0].beans[0].name: wrong field",
+    ),
+];
+
+/// Keys of a step, and what a reading of the file answers.
+const CONDITIONS: [(&str, &str); 11] = [
+    ("record = \"static\"", "ok"),
+    (
+        "record = \"both\"",
+        "extensions[0].steps[0].record: wrong field",
+    ),
+    ("record = 1", "extensions[0].steps[0].record: wrong field"),
+    (
+        "only_if = [1]",
+        "extensions[0].steps[0].only_if[0]: wrong field",
+    ),
+    (
+        "only_if = [\"a-b\"]",
+        "extensions[0].steps[0].only_if[0]: wrong name",
+    ),
+    (
+        "only_if = [\"slow\"]",
+        "extensions[0].steps[0].only_if[0]: unknown name",
+    ),
+    (
+        "only_if = [\"on\", \"on\", \"slow\"]",
+        "extensions[0].steps[0].only_if[1]: repeated",
+    ),
+    (
+        "only_if_not = [\"on\", \"slow\"]",
+        "extensions[0].steps[0].only_if_not[1]: unknown name",
+    ),
+    ("only_if = [\"on\"], only_if_not = [\"on\"]", "ok"),
+    ("body = 1", "extensions[0].steps[0].body: wrong field"),
+    ("body = \"\"", "ok"),
+];
+
 #[test]
 fn the_first_fault_of_a_file_is_answered(rt: HostRuntime) -> Result<(), Fail> {
     let alloc: Global = rt.alloc();
-    for (lines, want) in READ_AFTER_HEAD {
-        let mut text = String::from_str(alloc, HEAD)?;
-        text.push_str(lines)?;
-        let answer = shown(alloc, read_project(alloc, text.as_bytes()))?;
-        assert_eq!(rt; answer.as_str(), want, "of {lines}");
-    }
+    assert_eq!(rt; difference(alloc, HEAD, &READ_AFTER_HEAD, "")?.as_str(), "");
+    assert_eq!(rt; difference(alloc, HEAD, &CONFIGS, "")?.as_str(), "");
+    Ok(())
+}
+
+#[test]
+fn the_first_fault_of_an_extension_is_answered(rt: HostRuntime) -> Result<(), Fail> {
+    let alloc: Global = rt.alloc();
+    let mut first = String::from_str(alloc, HEAD)?;
+    first.push_str(EXTENSION)?;
+    assert_eq!(rt;
+        difference(alloc, first.as_str(), &BEANS_AND_RECORDERS, "}]")?.as_str(),
+        ""
+    );
+    first.push_str("steps = [{name = \"s\", ")?;
+    assert_eq!(rt;
+        difference(alloc, first.as_str(), &CONDITIONS, "}]}]")?.as_str(),
+        ""
+    );
     Ok(())
 }
 
@@ -168,9 +326,10 @@ const READ_WHOLE: [(&[u8], &str); 11] = [
 #[test]
 fn whole_files_are_answered(rt: HostRuntime) -> Result<(), Fail> {
     let alloc: Global = rt.alloc();
+    project_of_cut_bytes();
+    project_is_numbered();
+    project_fits();
     for (bytes, want) in READ_WHOLE {
-        project_of_cut_bytes(bytes);
-        project_is_numbered(bytes);
         let answer = shown(alloc, read_project(alloc, bytes))?;
         assert_eq!(rt; answer.as_str(), want);
     }
@@ -202,12 +361,75 @@ fn long_files_and_lists_pass_the_limits(rt: HostRuntime) -> Result<(), Fail> {
     Ok(())
 }
 
-const FULL: &str = "format = 2\napp = \"demo\"\njava = 21\nfinals = [\"Done\", \"Route\"]\n\
+/// A key whose list has so many entries, and what a reading of the file answers.
+const LIMITS: [(&str, &str, &str, u32, &str); 6] = [
+    (
+        "finals = [",
+        "1,",
+        "]",
+        2049,
+        "finals: 2049 is over the limit",
+    ),
+    (
+        "extensions = [",
+        "{},",
+        "]",
+        257,
+        "extensions: 257 is over the limit",
+    ),
+    (
+        "extensions = [{name = \"a\", beans = [{name = \"B\"}]}, {name = \"b\", beans = [",
+        "1,",
+        "]}]",
+        1024,
+        "extensions[1].beans: 1025 is over the limit",
+    ),
+    (
+        "extensions = [{name = \"a\", recorders = [{name = \"R\"}]}, {name = \"b\", recorders = [",
+        "1,",
+        "]}]",
+        256,
+        "extensions[1].recorders: 257 is over the limit",
+    ),
+    (
+        "extensions = [{name = \"a\", recorders = [{name = \"R\", methods = [{name = \"m\"}]}]}, {name = \"b\", recorders = [{name = \"S\", methods = [",
+        "1,",
+        "]}]}]",
+        1024,
+        "extensions[1].recorders[0].methods: 1025 is over the limit",
+    ),
+    (
+        "extensions = [{name = \"a\", steps = [{name = \"s\", body = \"",
+        "a",
+        "\"}]}]",
+        65536,
+        "extensions[0].steps[0].body: 65536 is over the limit",
+    ),
+];
+
+#[test]
+fn limits_count_over_the_whole_file(rt: HostRuntime) -> Result<(), Fail> {
+    let alloc: Global = rt.alloc();
+    for (first, piece, last, count, want) in LIMITS {
+        let mut text = String::from_str(alloc, HEAD)?;
+        text.push_str(first)?;
+        text.push_str(repeated(alloc, "", piece, count)?.as_str())?;
+        text.push_str(last)?;
+        let answer = shown(alloc, read_project(alloc, text.as_bytes()))?;
+        assert_eq!(rt; answer.as_str(), want);
+    }
+    Ok(())
+}
+
+const FULL: &str =
+    "format = 2\napp = \"demo\"\njava = 21\nconfig = {on = true, off = false}\nfinals = [\"Done\", \"Route\"]\n\
     [[extensions]]\nname = \"core\"\n\
     items = [{name = \"Done\", kind = \"empty\"}, {name = \"Route\", kind = \"ordered\", key = \"order\"}, {name = \"Log\", kind = \"simple\"}]\n\
-    steps = [{name = \"boot\", consumes = [\"Route\", \"Log optional\"], produces = [\"Done weak overridable\"]}]\n\
+    beans = [{name = \"Info\", fields = [\"order\", \"path\"]}]\n\
+    recorders = [{name = \"Web\", fields = [\"f\"], statics = [\"s\", \"t\"], methods = [{name = \"go\", params = [\"a\", \"b\"]}]}]\n\
+    steps = [{name = \"boot\", consumes = [\"Route\", \"Log optional\"], produces = [\"Done weak overridable\"], record = \"static\", only_if = [\"on\"], only_if_not = [\"off\"]}]\n\
     [[extensions]]\nname = \"web\"\n\
-    steps = [{name = \"boot\", produces = [\"Route weak\", \"Log overridable\", \"Done\"]}]\n";
+    steps = [{name = \"boot\", produces = [\"Route weak\", \"Log overridable\", \"Done\"], record = \"runtime\", only_if = [\"on\", \"off\"]}]\n";
 
 #[test]
 fn every_key_is_read(rt: HostRuntime) -> Result<(), Fail> {
@@ -249,5 +471,81 @@ fn every_key_is_read(rt: HostRuntime) -> Result<(), Fail> {
         (produces[2].item, produces[2].weak, produces[2].overridable),
         (0, false, false)
     );
+    Ok(())
+}
+
+/// The texts, with a space behind each.
+fn joined(alloc: Global, texts: &[Text]) -> Result<String, Fail> {
+    let mut all = String::new(alloc);
+    for text in texts {
+        all.push_str(text.as_str())?;
+        all.push_str(" ")?;
+    }
+    Ok(all)
+}
+
+#[test]
+fn beans_and_recorders_are_read(rt: HostRuntime) -> Result<(), Fail> {
+    let alloc: Global = rt.alloc();
+    let project = match read_project(alloc, FULL.as_bytes()) {
+        Ok(project) => project,
+        Err(_) => return Err(Fail::from("refused")),
+    };
+    assert_eq!(rt; project.names.beans.len(), 1);
+    for bean in project.names.beans.as_slice() {
+        assert_eq!(rt; bean.name.as_str(), "Info");
+        assert_eq!(rt;
+            joined(alloc, bean.fields.as_slice())?.as_str(),
+            "order path "
+        );
+    }
+    assert_eq!(rt; project.names.recorders.len(), 1);
+    for recorder in project.names.recorders.as_slice() {
+        assert_eq!(rt; joined(alloc, recorder.fields.as_slice())?.as_str(), "f ");
+        assert_eq!(rt;
+            joined(alloc, recorder.statics.as_slice())?.as_str(),
+            "s t "
+        );
+        assert_eq!(rt; recorder.methods.len(), 1);
+        for method in recorder.methods.as_slice() {
+            assert_eq!(rt; method.name.as_str(), "go");
+            assert_eq!(rt; joined(alloc, method.params.as_slice())?.as_str(), "a b ");
+        }
+    }
+    Ok(())
+}
+
+#[test]
+fn phases_and_conditions_are_read(rt: HostRuntime) -> Result<(), Fail> {
+    let alloc: Global = rt.alloc();
+    let project = match read_project(alloc, FULL.as_bytes()) {
+        Ok(project) => project,
+        Err(_) => return Err(Fail::from("refused")),
+    };
+    let steps = project.steps.as_slice();
+    assert_eq!(rt; steps.len(), 2);
+    assert!(rt; matches!(steps[0].phase, Some(Phase::Static)));
+    assert!(rt; steps[0].active);
+    assert!(rt; matches!(steps[1].phase, Some(Phase::Runtime)));
+    assert!(rt; !steps[1].active);
+    Ok(())
+}
+
+#[test]
+fn final_items_that_stand_there_twice_or_nowhere_do_not_fit(rt: HostRuntime) -> Result<(), Fail> {
+    let alloc: Global = rt.alloc();
+    let project = match read_project(alloc, FULL.as_bytes()) {
+        Ok(project) => project,
+        Err(_) => return Err(Fail::from("refused")),
+    };
+    assert!(rt; fits(alloc, &project.names, &project.steps, &project.finals)?);
+    let mut finals = Seq::new(alloc);
+    finals.push(2)?;
+    assert!(rt; fits(alloc, &project.names, &project.steps, &finals)?);
+    finals.push(2)?;
+    assert!(rt; !fits(alloc, &project.names, &project.steps, &finals)?);
+    let mut other = Seq::new(alloc);
+    other.push(3)?;
+    assert!(rt; !fits(alloc, &project.names, &project.steps, &other)?);
     Ok(())
 }

@@ -12,7 +12,7 @@ use crate::{Command, Outcome};
 use aug_base::{Shelf, Sink};
 use build_report::report_plan;
 use chain_builder::{ChainFault, build_chain};
-use ext_parser::{Project, ProjectFault, read_project};
+use ext_parser::{Project, ProjectFault, project_of_cut_bytes, read_project};
 use item_types::Memory;
 use std::alloc::Global;
 
@@ -21,6 +21,7 @@ use std::alloc::Global;
 pub fn plan_call<S: Shelf, K: Sink>(alloc: Global, file: &str, shelf: &mut S, sink: &mut K) -> u8
     ensures answers { AnswersCommand (Command.Plan file.now) (outside (S.state shelf.old) (K.state sink.old)) (outside (S.state shelf.new) (K.state sink.new)) result }
 {
+    project_of_cut_bytes();
     let bytes = match read_input(alloc, shelf, file, PROJECT_LIMIT) {
         Ok(bytes) => bytes,
         Err(status) => return status,

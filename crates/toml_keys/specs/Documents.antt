@@ -3,7 +3,7 @@ use denote.Ref.{Bor}
 use Rattle.std.specs.Prelude.{map, ℕ, ℤ, List, Bool, cond, Option, Some, None, option_and_then, if◌then◌else◌, ◌+◌}
 use Rattle.std.specs.List.{list_any}
 use Rattle.std.specs.Str.{is_utf8, bytes_eq}
-use Rattle.toml.specs.Data.{Data, Items, no_items, item, Members, no_members, member, get_member, as_integer, as_str, as_array}
+use Rattle.toml.specs.Data.{Items, no_items, item, Members, no_members, member, get_member, as_integer, as_str, as_array}
 use Rattle.toml.specs.Parse.{parse_document}
 
 -- the table that a file's bytes write, if they are UTF-8 and `toml` reads them
@@ -37,3 +37,8 @@ is_among words text = list_any (bytes_eq text) words
 abbrev pub other_key : List (List ℕ) → Members → Option (List ℕ)
 other_key own no_members = None
 other_key own (member key value rest) = cond (is_among own key) (other_key own rest) (Some key)
+
+-- how many keys a table has
+abbrev pub key_count : Members → ℕ
+key_count no_members = 0
+key_count (member key value rest) = key_count rest + 1

@@ -3,7 +3,7 @@ ghost use Rattle.std.specs.List.{list_any};
 ghost use Rattle.std.specs.Str.{bytes_eq};
 ghost use Rattle.toml.specs.Data.{get_member};
 ghost use Rattle.toml.specs.View.{table_view, array_view, view};
-ghost use Rattle.toml_keys.specs.Documents.{text_at, integer_at, array_at, count, is_among, other_key, texts_of};
+ghost use Rattle.toml_keys.specs.Documents.{text_at, integer_at, array_at, count, key_count, is_among, other_key, texts_of};
 
 use toml::value::Array;
 use toml::{Table, Value};
@@ -42,6 +42,14 @@ pub fn entry_count(array: &Array) -> usize
 {
     let _ = array.capacity();
     array.len()
+}
+
+/// How many keys a table has.
+pub fn key_count(table: &Table) -> usize
+    ensures value { result ≡ key_count (table_view table.now) }
+    ensures small { result < 2 ^ 63 }
+{
+    table.len()
 }
 
 /// The list at a key; none where another kind of value is there.

@@ -7,4 +7,6 @@ mod document;
 mod keys;
 
 pub use document::{ReadFault, read_table};
-pub use keys::{array_at, entry_count, integer_at, is_among, other_key, text_at, value_at};
+pub use keys::{
+    array_at, entry_count, integer_at, is_among, key_count, other_key, text_at, value_at,
+};

@@ -1,4 +1,3 @@
-use Rattle.std.proofs.Common.{vec_len}
 use Rattle.toml_keys.proofs.Counts.{count_view}
 use Rattle.toml_keys.proofs.keys.entry_count.Goals as goal
 

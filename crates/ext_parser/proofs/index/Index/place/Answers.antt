@@ -1,5 +1,5 @@
 use Rattle.std.proofs.Common.{◌∙◌, ap, List, ℕ}
-use Rattle.ext_parser.specs.SecondWalk.{place}
+use Rattle.ext_parser.specs.Place.{place}
 use Rattle.ext_parser.proofs.Places.{place-within}
 use Rattle.ext_parser.proofs.index.Index.place.Goals as goal
 

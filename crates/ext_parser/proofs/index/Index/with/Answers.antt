@@ -3,7 +3,7 @@ use Rattle.std.proofs.Common.{◌≡◌, ◌∙◌, ap, sym, subst, List, ℕ, [
 use Rattle.std.specs.BTreeMap.{UpdatesBy}
 use Rattle.std.specs.Cmp.Lexicographic.{slice_cmp}
 use Rattle.std.specs.Ordering.{nat_cmp}
-use Rattle.ext_parser.specs.SecondWalk.{place}
+use Rattle.ext_parser.specs.Place.{place}
 use Rattle.ext_parser.proofs.Places.{Indexes, noted, kept, map-push, map-length, on-ok, twice-not}
 use Rattle.ext_parser.proofs.index.Index.with.Goals as goal
 use Rattle.ext_parser.proofs.index.Index.with.Goals.{else-is_none-via-then-is_none+else-is_err, else-is_none-via-else-is_none}

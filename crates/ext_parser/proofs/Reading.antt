@@ -1,8 +1,0 @@
--- What follows what was read already.
-use Rattle.std.proofs.Common.{List, ◌++◌, Result, Ok, Err}
-use Rattle.ext_parser.specs.declared.fault.ProjectFault.{ProjectFault}
-
--- the entries found so far, and then the rest
-abbrev pub after : {A : Type 0} → List A → Result (List A) ProjectFault → Result (List A) ProjectFault
-after found (Ok rest) = Ok (found ++ rest)
-after found (Err fault) = Err fault

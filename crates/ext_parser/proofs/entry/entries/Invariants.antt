@@ -1,9 +1,0 @@
-use Rattle.std.proofs.Common.{◌≡◌, drop}
-use Rattle.toml.specs.View.{items_view}
-use Rattle.ext_parser.specs.Reading.{entries_at}
-use Rattle.ext_parser.proofs.Reading.{after}
-use Rattle.ext_parser.proofs.entry.entries.Given as goal
-
--- what is left comes after the entries found so far
-abbrev pub invariant-loop-index : goal.invariant-loop-index
-invariant-loop-index g l = entries_at g.E.Entry.reads l.path 0 (items_view l.values) ≡ after l.found (entries_at g.E.Entry.reads l.path l.index (items_view (drop l.index l.values)))
