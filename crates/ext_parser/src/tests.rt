@@ -1,10 +1,22 @@
 use crate::{
-    Project, ProjectFault, fits, project_fits, project_is_numbered, project_of_cut_bytes,
-    read_project,
+    LangFault, Project, ProjectFault, fits, project_fits, project_is_numbered,
+    project_of_cut_bytes, read_project,
 };
 use item_types::{ItemKind, Phase, Seq, Text};
 use std::alloc::Global;
 use std::test::Fail;
+
+/// The token of a fault in a body, and what is wrong with it.
+fn token_of(fault: &LangFault) -> (u32, &'static str) {
+    match fault {
+        LangFault::Token { at } => (*at, "wrong token"),
+        LangFault::TooDeep { at } => (*at, "too deep"),
+        LangFault::Syntax { at } => (*at, "syntax"),
+        LangFault::Unknown { at } => (*at, "unknown name"),
+        LangFault::Undeclared { at } => (*at, "wrong use"),
+        LangFault::Memory => (0, "memory"),
+    }
+}
 
 /// What a reading answered: `ok`, or the fault after its path.
 fn shown(alloc: Global, read: Result<Project, ProjectFault>) -> Result<String, Fail> {
@@ -20,6 +32,11 @@ fn shown(alloc: Global, read: Result<Project, ProjectFault>) -> Result<String, F
         Err(ProjectFault::Name(path)) => (path.into_string(), "wrong name"),
         Err(ProjectFault::Repeated(path)) => (path.into_string(), "repeated"),
         Err(ProjectFault::Unknown(path)) => (path.into_string(), "unknown name"),
+        Err(ProjectFault::Body(path, fault)) => {
+            let path = path.into_string();
+            let (at, words) = token_of(&fault);
+            return Ok(format!(in alloc; "{path}: token {at}: {words}")?);
+        }
     };
     Ok(format!(in alloc; "{path}: {words}")?)
 }
@@ -283,6 +300,72 @@ const CONDITIONS: [(&str, &str); 11] = [
     ("body = \"\"", "ok"),
 ];
 
+const STEP: &str =
+    "items = [{name = \"T\", kind = \"simple\"}, {name = \"U\", kind = \"simple\"}], steps = [{name = \"s\", produces = [\"T\"], ";
+
+/// Keys of a step that produces the item T, where an item U is declared too, and what a reading of
+/// the file answers.
+const BODIES: [(&str, &str); 7] = [
+    ("body = 'produce T(1);'", "ok"),
+    (
+        "body = 'produce T(1'",
+        "extensions[0].steps[0].body: token 4: syntax",
+    ),
+    (
+        "body = 'produce T(get U);'",
+        "extensions[0].steps[0].body: token 4: wrong use",
+    ),
+    (
+        "body = 'produce V(1);'",
+        "extensions[0].steps[0].body: token 1: unknown name",
+    ),
+    (
+        "body = 'let x = @;'",
+        "extensions[0].steps[0].body: token 3: wrong token",
+    ),
+    (
+        "only_if_not = [\"on\"], body = 'produce T(1'",
+        "extensions[0].steps[0].body: token 4: syntax",
+    ),
+    (
+        "consumes = [\"X\"], body = 'produce T(1'",
+        "extensions[0].steps[0].consumes[0]: unknown name",
+    ),
+];
+
+/// Keys of an extension with methods, and what a reading of the file answers.
+const METHODS: [(&str, &str); 3] = [
+    (
+        "recorders = [{name = \"R\", methods = [{name = \"m\", params = [\"p\"], body = 'print p;'}]}]",
+        "ok",
+    ),
+    (
+        "recorders = [{name = \"R\", methods = [{name = \"m\", body = 'return q;'}]}]",
+        "extensions[0].recorders[0].methods[0].body: token 1: unknown name",
+    ),
+    (
+        "steps = [{name = \"s\", body = ';'}], recorders = [{name = \"R\", methods = [{name = \"m\", body = 'print 1'}]}]",
+        "extensions[0].recorders[0].methods[0].body: token 2: syntax",
+    ),
+];
+
+#[test]
+fn the_first_fault_of_a_body_is_answered_last(rt: HostRuntime) -> Result<(), Fail> {
+    let alloc: Global = rt.alloc();
+    let mut first = String::from_str(alloc, HEAD)?;
+    first.push_str(EXTENSION)?;
+    assert_eq!(rt;
+        difference(alloc, first.as_str(), &METHODS, "}]")?.as_str(),
+        ""
+    );
+    first.push_str(STEP)?;
+    assert_eq!(rt;
+        difference(alloc, first.as_str(), &BODIES, "}]}]")?.as_str(),
+        ""
+    );
+    Ok(())
+}
+
 #[test]
 fn the_first_fault_of_a_file_is_answered(rt: HostRuntime) -> Result<(), Fail> {
     let alloc: Global = rt.alloc();
@@ -362,7 +445,7 @@ fn long_files_and_lists_pass_the_limits(rt: HostRuntime) -> Result<(), Fail> {
 }
 
 /// A key whose list has so many entries, and what a reading of the file answers.
-const LIMITS: [(&str, &str, &str, u32, &str); 6] = [
+const LIMITS: [(&str, &str, &str, u32, &str); 7] = [
     (
         "finals = [",
         "1,",
@@ -404,6 +487,13 @@ const LIMITS: [(&str, &str, &str, u32, &str); 6] = [
         "\"}]}]",
         65536,
         "extensions[0].steps[0].body: 65536 is over the limit",
+    ),
+    (
+        "extensions = [{name = \"a\", items = [{name = \"T\", kind = \"simple\"}], steps = [{name = \"s\", produces = [\"T\"], body = 'produce T(",
+        "(",
+        "'}]}]",
+        64,
+        "extensions[0].steps[0].body: token 66: too deep",
     ),
 ];
 
@@ -528,6 +618,8 @@ fn phases_and_conditions_are_read(rt: HostRuntime) -> Result<(), Fail> {
     assert!(rt; steps[0].active);
     assert!(rt; matches!(steps[1].phase, Some(Phase::Runtime)));
     assert!(rt; !steps[1].active);
+    assert_eq!(rt; project.bodies.len(), 2);
+    assert_eq!(rt; project.methods.lists.len(), 1);
     Ok(())
 }
 
