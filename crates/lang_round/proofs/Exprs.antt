@@ -15,7 +15,7 @@ use Rattle.lang_grammar.specs.Naming.{item_number, bean_number}
 use Rattle.lang_grammar.specs.Forms.{Form, nothing}
 use Rattle.lang_grammar.specs.Table as table
 use Rattle.lang_grammar.specs.Table.{compares}
-use Rattle.lang_names.specs.Checked.{Checked, right, and_also, later}
+use Rattle.lang_names.specs.Checked.{right, and_also, later}
 use Rattle.lang_names.specs.Known.{Known, no_number}
 use Rattle.lang_names.specs.Exprs.{Told, told_of, taken_right, get_right, all_right, new_right, bean_right, name_right, fields_right, all_checked, with_told, link_right}
 use Rattle.lang_print.specs.Tokens.{parted, together, link_tokens, field_tokens, paren_tokens, expr_tokens, with_tokens}
@@ -48,8 +48,6 @@ module _ (step : Bool) (k : Known) (s : List (List ℕ)) where
   fields_good : (declared before : List (List ℕ)) (fs : List (List ℕ × Expr)) → fields_right declared before (with_told k fs) s ≡ right → AllGood GoodField pr_field fs
   fields_good declared before [] g = tt
   fields_good declared before (f ∷ fs) g =
-      let rest : Checked = fields_right declared (before ++ f.0 ∷ []) (with_told k fs) s in
-      let named : Checked = name_right declared before f.0 (told_of k f.1).first in
       let l : and_also (name_right declared before f.0 (told_of k f.1).first) ((told_of k f.1).check s) ≡ right =
       both_left (and_also (name_right declared before f.0 (told_of k f.1).first) ((told_of k f.1).check s)) (fields_right declared (before ++ f.0 ∷ []) (with_told k fs) s) g in (
         both_right (name_right declared before f.0 (told_of k f.1).first) ((told_of k f.1).check s) l,
@@ -85,7 +83,6 @@ module _ (step : Bool) (k : Known) (s : List (List ℕ)) where
     new_is : (at : ℕ) (w : List ℕ) (fs : List (List ℕ × Expr)) (zs : List Token) → (AllGood GoodField pr_field fs → parted Comma false (map pr_field fs) ++ Sign CloseBlock ∷ [] ≡ zs)
         → Good (e.New at (bean_number k.names w) fs) → pr (e.New at (bean_number k.names w) fs) ≡ Sign New ∷ Name w ∷ Sign OpenBlock ∷ zs
     new_is at w fs zs q g =
-        let b : ℕ = bean_number k.names w in
         let h : bean_right k at (bean_number k.names w) (with_told k fs) s ≡ right = sym (checks_new k s at (bean_number k.names w) fs) ∙ g in
         let n : new_right k at (bean_number k.names w) (map (λ (f : List ℕ × Told). f.0) (with_told k fs)) ≡ right = both_left _ _ h in
         let c : (bean_number k.names w == no_number) ≡ false = known_number (bean_number k.names w) (later at 1) (both_left _ _ n) in

@@ -4,7 +4,6 @@ use Rattle.std.specs.Prelude.{◌&&◌, ◌||◌, ◌==◌, Option, Some, None, 
 use Rattle.std.specs.Char.{encode_utf8}
 use Rattle.std.specs.Str.{encode_utf8_all, chars, IsUtf8}
 use Rattle.std.specs.Fmt.{signed_decimal}
-use Rattle.std.proofs.lemmas.Bool.Decides.{nat_tests}
 use Rattle.std.proofs.lemmas.Bool.{and_parts}
 use Rattle.std.proofs.lemmas.Str.{encodes-append, scalars-chars, chars-encodes, chars-nil, IsUtf8-nil}
 use Rattle.std.proofs.Math.Utf8.{scalar, scalars}
@@ -17,7 +16,7 @@ use Rattle.lang_lexer.specs.Tokens.{token, is_blank, skip, go_on, tokens_from, t
 use Rattle.lang_lexer.specs.Kinds.{IsToken, mark, number, text, name, AreTokens, over, stuck, more}
 use Rattle.lang_print.specs.Canonical.{word, mark_hugs_left, hugs_left, hugs_right, between, behind, canonical}
 use Rattle.lang_round.specs.Spelled.{IsSpelled}
-use Rattle.lang_round.proofs.Words.{parted, Shows, shows_mark, shows_name, shows_number, if_true, if_false}
+use Rattle.lang_round.proofs.Words.{same_number, parted, Shows, shows_mark, shows_name, shows_number, if_true, if_false}
 use Rattle.lang_round.proofs.Quotes.{shown_text, shows_text, means_utf8, scalars_both, scalars_left, scalars_right}
 
 -- how a token is written, in characters
@@ -100,9 +99,6 @@ apart t [] = or_true (hugs_right t)
 apart t (u ∷ us) = apart_by (hugs_right t) (hugs_left u) (shown u ++ after u us) (shown_apart u (after u us))
 
 -- ---- blanks
-
-same_number : (a b : ℕ) → (a == b) ≡ true → a ≡ b
-same_number a b e = grind (arith, nat_tests)
 
 none_space : (cs : List ℕ) → token (32 ∷ cs) ≡ None
 none_space [] = refl

@@ -2,7 +2,6 @@
 use Rattle.std.proofs.Common.{◌≡◌, ℕ, suc, ◌+◌, Bool, true, false, List, [], ◌∷◌, Ok, Err, refl, ap, ◌∙◌, arith, if◌then◌else◌}
 use Rattle.std.specs.Prelude.{not, ◌==◌, Option, Some, None, slice_get}
 use Rattle.std.specs.Str.{bytes_eq}
-use Rattle.std.proofs.lemmas.Slice.Eq.{bytes_eq-Decides}
 use Rattle.item_types.specs.Named.{bean_name}
 use Rattle.item_types.specs.declared.decl.ItemDecl.{ItemDecl}
 use Rattle.item_types.specs.declared.decl.BeanDecl.{BeanDecl}
@@ -12,6 +11,7 @@ use Rattle.item_types.specs.declared.decl.Names.{Names}
 use Rattle.lang_grammar.specs.Naming.{no_number, place_of, item_number, bean_number, recorder_number, methods_by, method_number}
 use Rattle.lang_names.specs.Checked.{Checked, right, known, and_also}
 use Rattle.lang_print.specs.Naming.{item_by, recorder_by, method_by, method_in, item_name, recorder_name, method_name}
+use Rattle.lang_round.proofs.Words.{bytes_same}
 
 -- ---- tests
 
@@ -42,9 +42,6 @@ record Placed {A : Type 0} (name : A → List ℕ) (i : ℕ) (xs : List A) (w : 
   x : A
   gets : slice_get xs j ≡ Some x
   named : name x ≡ w
-
-bytes_same : (xs ys : List ℕ) → bytes_eq xs ys ≡ true → xs ≡ ys
-bytes_same xs ys e = (bytes_eq-Decides xs ys).0 e
 
 later_placed : {A : Type 0} (name : A → List ℕ) (i : ℕ) (y : A) (xs : List A) (w : List ℕ) (place : ℕ) → Placed name (i + 1) xs w place → Placed name i (y ∷ xs) w place
 later_placed name i y xs w place h = record { j = suc h.j; at = (let e : place ≡ i + 1 + h.j = h.at in omega (arith, e)); x = h.x; gets = h.gets; named = h.named }

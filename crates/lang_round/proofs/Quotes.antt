@@ -16,7 +16,7 @@ use Rattle.lang_tokens.specs.declared.token.Token.TheVariants.{Str}
 use Rattle.lang_lexer.specs.Quotes.{quoted, hex_value, is_scalar}
 use Rattle.lang_lexer.specs.Tokens.{token, quoted_token}
 use Rattle.lang_lexer.specs.Kinds.{IsEscape, quote, backslash, line, tab, Means, no_text, itself, escape, scalar as by_number}
-use Rattle.lang_round.proofs.Words.{Shows, if_true, if_false, lt_true, ascii, ascii_bytes, ascii_scalars}
+use Rattle.lang_round.proofs.Words.{same_number, Shows, if_true, if_false, lt_true, ascii, ascii_bytes, ascii_scalars}
 
 -- how a quoted text shows a character, in characters
 abbrev pub shown_char : ℕ → List ℕ
@@ -29,9 +29,6 @@ shown_char c =
 
 abbrev pub shown_text : List ℕ → List ℕ
 shown_text t = 34 ∷ (flat_map shown_char (chars t) ++ 34 ∷ [])
-
-same_number : (a b : ℕ) → (a == b) ≡ true → a ≡ b
-same_number a b e = grind (arith, nat_tests)
 
 scalar_low : (c : ℕ) → c < 128 → is_scalar c ≡ true
 scalar_low c h = ap (λ b. b || nat_le 0xE000 c && nat_le c 0x10FFFF) (lt_true c 0xD800 (omega arith))
@@ -114,7 +111,6 @@ module _ (F : List ℕ → List ℕ → Option (List ℕ × List ℕ)) (plain : 
 
   one_digit : (c : ℕ) → c < 16 → Reads c (92 ∷ 117 ∷ 123 ∷ (digits 16 false c ++ 125 ∷ [])) (codes "\\u{" ++ digits 16 false c ++ codes "}")
   one_digit c h =
-      let g : ℕ = digit_glyph false c in
       let small : ascii (92 ∷ 117 ∷ 123 ∷ digit_glyph false c ∷ 125 ∷ []) ≡ true = ap (λ b. b && true) (glyph_small c h) in
       let e : 16 * 0 + c ≡ c = omega arith in
       subst (λ ds. Reads c (92 ∷ 117 ∷ 123 ∷ (ds ++ 125 ∷ [])) (codes "\\u{" ++ ds ++ codes "}")) (sym (hex_one_digit false c h)) (record {

@@ -268,7 +268,6 @@ module _ (step : Bool) (k : Known) where
 
     if_is : (at : ℕ) (x : Expr) (c : List Stmt) (o : Option (List Stmt)) (us vs ws : List Token) → Fine x us → FineBlock c vs → FineOther o ws → FineStmt (b.If at x c o) (Sign If ∷ (us ++ (vs ++ ws)))
     if_is at x c o us vs ws p q r s t g =
-        let tx : Checked = expr_right k s x in
         let h : and_also (and_also (expr_right k s x) (block_right (map (passing k) c) s)) (other_right (others k o) s) ≡ right =
         leaves_right (and_also (and_also (expr_right k s x) (block_right (map (passing k) c) s)) (other_right (others k o) s)) s t (sym (passes_if k s at x c o) ∙ g) in
         let l : and_also (expr_right k s x) (block_right (map (passing k) c) s) ≡ right = both_left (and_also (expr_right k s x) (block_right (map (passing k) c) s)) (other_right (others k o) s) h in

@@ -26,12 +26,12 @@ use Rattle.lang_lexer.specs.Kinds.{begins_word, IsWord, goes_on, IsCount, counte
 use Rattle.lang_print.specs.Canonical.{hugs_right, mark_hugs_right}
 use Rattle.lang_print.specs.Canonical as canonical
 
--- whether a text goes on with no name, number or `=`
+-- whether a text begins with no character that could carry a name, a number or `=` on
 abbrev pub parted : List ℕ → Bool
 parted [] = true
 parted (c ∷ cs) = not (in_name c) && not (c == 61)
 
--- these characters are the token, written canonically, and are read as it in front of what parts from it
+-- these characters are the token, written canonically, and are read as that token where nothing behind them could carry it on
 pub record Shows (t : Token) (w : List ℕ) : Type 0 where
   pub bytes : encode_utf8_all w ≡ canonical.word t
   pub scalar : scalars w ≡ true
@@ -54,6 +54,9 @@ not_true true e = absurd cc
 abbrev pub ascii : List ℕ → Bool
 ascii [] = true
 ascii (c ∷ cs) = nat_lt c 128 && ascii cs
+
+pub same_number : (a b : ℕ) → (a == b) ≡ true → a ≡ b
+same_number a b e = grind (arith, nat_tests)
 
 below : (a b : ℕ) → nat_lt a b ≡ true → a < b
 below a b e = grind (arith, nat_tests)
@@ -191,7 +194,7 @@ shows_mark Return = shows_keyword Return refl refl refl refl refl
 
 -- ---- names
 
-bytes_same : (xs ys : List ℕ) → bytes_eq xs ys ≡ true → xs ≡ ys
+pub bytes_same : (xs ys : List ℕ) → bytes_eq xs ys ≡ true → xs ≡ ys
 bytes_same xs ys e = (bytes_eq-Decides xs ys).0 e
 
 pick_by : (w : List ℕ) (m k : Mark) (rest : Option Mark) → (rest ≡ Some m → w ≡ written m) → (b : Bool) → bytes_eq w (written k) ≡ b → (if b then Some k else rest) ≡ Some m → w ≡ written m

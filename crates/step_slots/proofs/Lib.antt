@@ -1,0 +1,10 @@
+pub mod Calls
+pub mod End
+pub mod Events
+pub mod Finish
+pub mod Opening
+pub mod Rooms
+pub mod Scripts
+pub mod Sound
+pub mod Twins
+pub mod Steps
