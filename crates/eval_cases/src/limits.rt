@@ -73,3 +73,23 @@ fn a_step_takes_16_384_cells(rt: HostRuntime) -> Result<(), Fail> {
     assert!(rt; fails(&taking(rt.alloc(), 16_385)?, Reason::TooManyTaken(0)));
     Ok(())
 }
+
+/// The outcome of 32 bindings of a text of 32,768 letters, and one of `last`.
+fn texts(alloc: Global, last: &str) -> Result<Outcome, Memory> {
+    let letters = "x".repeat(alloc, 32_768)?;
+    let mut stmts = Seq::new(alloc);
+    for _i in 0..32 {
+        let value = text(alloc, 1, letters.as_str())?;
+        stmts.push(bind(alloc, "a", value)?)?;
+    }
+    let value = text(alloc, 1, last)?;
+    stmts.push(bind(alloc, "a", value)?)?;
+    outcome(alloc, stmts)
+}
+
+#[test]
+fn a_step_makes_1_048_576_bytes_of_text(rt: HostRuntime) -> Result<(), Fail> {
+    assert!(rt; ends(&texts(rt.alloc(), "")?));
+    assert!(rt; fails(&texts(rt.alloc(), "x")?, Reason::TooMuchText));
+    Ok(())
+}
