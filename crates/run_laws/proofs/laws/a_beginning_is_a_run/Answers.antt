@@ -1,0 +1,5 @@
+use Rattle.run_laws.proofs.Walks.{run_init}
+use Rattle.run_laws.proofs.laws.a_beginning_is_a_run.Goals as goal
+
+pub returns : goal.returns
+returns c = run_init
