@@ -12,17 +12,33 @@ fn long_chain(alloc: Global) -> Result<bool, Memory> {
     reads_and_prints(alloc, text.as_str())
 }
 
-/// Whether 64 lists in one another are printed as they are read.
-fn deep_lists(alloc: Global) -> Result<bool, Memory> {
-    let opening = repeated(alloc, "fail ", "[", 64, "")?;
-    let text = repeated(alloc, opening.as_str(), "]", 64, ";")?;
-    reads_and_prints(alloc, text.as_str())
+/// What stands before, around and behind 63 forms of a kind in one another; the 64th stands in the
+/// text before and the text behind.
+const KINDS: [(&str, &str, &str, &str, &str); 6] = [
+    ("fail(", "(", "null", ")", ");"),
+    ("fail [", "[", "", "]", "];"),
+    ("fail new B { f: ", "new B { f: ", "null", " }", " };"),
+    ("if null {", " if null {", "", " }", " }"),
+    ("fail !", "!", "null", "", ";"),
+    ("fail len ", "len ", "null", "", ";"),
+];
+
+/// Whether 64 forms of each kind in one another are printed as they are read.
+fn deep_forms(alloc: Global) -> Result<bool, Memory> {
+    for (before, opening, inner, closing, after) in KINDS {
+        let front = repeated(alloc, before, opening, 63, inner)?;
+        let text = repeated(alloc, front.as_str(), closing, 63, after)?;
+        if !reads_and_prints(alloc, text.as_str())? {
+            return Ok(false);
+        }
+    }
+    Ok(true)
 }
 
 #[test]
-fn a_long_chain_and_deep_lists_fit_the_stack(rt: HostRuntime) -> Result<(), Fail> {
+fn a_long_chain_and_deep_forms_fit_the_stack(rt: HostRuntime) -> Result<(), Fail> {
     assert!(rt; long_chain(rt.alloc())?);
-    assert!(rt; deep_lists(rt.alloc())?);
+    assert!(rt; deep_forms(rt.alloc())?);
     Ok(())
 }
 
@@ -32,8 +48,8 @@ fn they_fit_a_threads_stack(rt: HostRuntime) -> Result<(), Fail> {
     let chain = thread::spawn(&rt, move || long_chain(alloc))?;
     let found = chain.join(&rt)?;
     assert!(rt; found);
-    let lists = thread::spawn(&rt, move || deep_lists(alloc))?;
-    let found = lists.join(&rt)?;
+    let forms = thread::spawn(&rt, move || deep_forms(alloc))?;
+    let found = forms.join(&rt)?;
     assert!(rt; found);
     Ok(())
 }

@@ -1,15 +1,21 @@
 // Large texts of bodies, and what becomes of them.
 
-use item_types::{Memory, Names, Same, Seq, StepDecl, Text};
+use item_types::{BeanDecl, Memory, Names, Same, Seq, StepDecl, Text};
 use std::alloc::Global;
 use step_lang::{Body, LangFault, parse_body, print_body};
 
-fn no_names(alloc: Global) -> Names {
-    Names {
+/// The bean `B` with the field `f`, and nothing else.
+fn one_bean(alloc: Global) -> Result<Names, Memory> {
+    let mut fields = Seq::new(alloc);
+    fields.push(Text::of(alloc, "f")?)?;
+    let name = Text::of(alloc, "B")?;
+    let mut beans = Seq::new(alloc);
+    beans.push(BeanDecl { name, fields })?;
+    Ok(Names {
         items: Seq::new(alloc),
-        beans: Seq::new(alloc),
+        beans,
         recorders: Seq::new(alloc),
-    }
+    })
 }
 
 /// A step that consumes and produces nothing and doesn't record.
@@ -49,7 +55,7 @@ fn is_printed_as(alloc: Global, body: &Body, names: &Names, text: &str) -> Resul
 
 /// Whether a text is read as a body that is printed as the text itself.
 pub(crate) fn reads_and_prints(alloc: Global, text: &str) -> Result<bool, Memory> {
-    let names = no_names(alloc);
+    let names = one_bean(alloc)?;
     let decl = plain_step(alloc)?;
     if text.len() > 65535 {
         return Ok(false);
