@@ -1,0 +1,4 @@
+pub mod Numbers
+pub mod WordLaws
+pub mod Asked
+pub mod Reading
