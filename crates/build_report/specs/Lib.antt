@@ -1,2 +1,3 @@
 pub mod PlanText
 pub mod ProjectFaultText
+pub mod BuildText
