@@ -1,2 +1,5 @@
 pub mod Backs
+pub mod Going
 pub mod Inside
+pub mod Plays
+pub mod Turns

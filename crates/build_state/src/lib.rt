@@ -5,7 +5,12 @@
 //! and all that it keeps beside is what the history says.
 #![tactic(auto)]
 
+mod act;
+mod drain;
+mod one_step;
+mod play;
 mod state;
 
+pub use act::Act;
 pub use state::{BuildState, HandIn};
 pub use step_slots::{Halt, Mark, Stage};
