@@ -9,7 +9,7 @@ use std::alloc::Global;
 use step_slots::Mark;
 
 impl<'j> BuildState<'j> {
-    ghost use Rattle.std.specs.Prelude.{◌≡◌, ◌↔◌, ◌<◌, length, IfOk, OnOk, IsTrue};
+    ghost use Rattle.std.specs.Prelude.{◌≡◌, ◌↔◌, ◌<◌, length, IfOk, OnOk, OnErr, IsTrue};
     ghost use Rattle.build_history.specs.Kinds.{IsFinished};
     ghost use Rattle.step_slots.specs.Built.{Built};
     ghost use Rattle.build_state.specs.Plays.{IsOpening, IsPlayed, Plays, Acts, Holds, Stands, act_step};
@@ -41,10 +41,14 @@ impl<'j> BuildState<'j> {
         Ok(())
     }
 
-    /// Makes the move, where its condition holds.
-    fn make_move(&mut self, alloc: Global, act: Act) -> Result<(), Memory>
+    /// Makes the move, where its condition holds; else it is passed over.
+    ///
+    /// # Errors
+    /// `Memory` for want of memory: the history is as before.
+    pub fn make_move(&mut self, alloc: Global, act: Act) -> Result<(), Memory>
         ensures job { self.new.job ≡ self.old.job }
         ensures acts { OnOk result (Acts self.old act self.new) }
+        ensures err { OnErr result (self.new ≡ self.old) }
     {
         if !self.holds(act) {
             return Ok(());
