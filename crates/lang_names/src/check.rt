@@ -1,10 +1,13 @@
+ghost use Rattle.std.specs.Prelude.{◌≡◌, IfOk, slice_get};
+ghost use Rattle.lang_names.specs.Known.{method_of};
 ghost use Rattle.lang_names.specs.Names as spec;
 ghost use Rattle.lang_names.specs.Stmts.{Rights};
 
 use crate::setting::Setting;
 use crate::stmts::check_block;
 use crate::wrong::NameFault;
-use item_types::{Memory, Names, Same, StepDecl, Text};
+use item_types::{Memory, MethodSig, Names, StepDecl};
+use name_index::{Index, names_of};
 use std::alloc::Global;
 use syntax_tree::Stmt;
 
@@ -22,8 +25,34 @@ pub fn check_body(
     ensures { Rights (spec.body_right names.now decl.now stmts.now) result }
 {
     let setting = Setting::of_step(names, decl);
-    let mut scope = Vec::new(alloc);
-    check_block(alloc, &setting, &mut scope, stmts)
+    let mut scope = Index::new(alloc);
+    check_block(&setting, &mut scope, stmts)
+}
+
+/// The parameters of a method, which are in scope where it begins.
+#[tactic(auto, using(crate::proofs::Scopes::own_names))]
+fn params_of<'a>(alloc: Global, sig: &'a MethodSig) -> Result<Index<'a>, Memory>
+    ensures { IfOk result (λ names. names ≡ sig.now.params) }
+{
+    names_of(alloc, sig.params.as_slice())
+}
+
+/// The names in scope where a method begins: none where there is no such method.
+fn scope_of<'a>(
+    alloc: Global,
+    names: &'a Names,
+    recorder: u32,
+    method: u32,
+) -> Result<Index<'a>, Memory>
+    ensures { IfOk result (λ scope. scope ≡ spec.names_of_params (method_of (slice_get names.now.recorders recorder) method)) }
+{
+    match names.recorders.as_slice().get(recorder as usize) {
+        Some(decl) => match decl.methods.as_slice().get(method as usize) {
+            Some(sig) => params_of(alloc, sig),
+            None => Ok(Index::new(alloc)),
+        },
+        None => Ok(Index::new(alloc)),
+    }
 }
 
 /// Whether the names of a recorder's method are all right: its parameters are in scope where it
@@ -42,12 +71,6 @@ pub fn check_method(
     ensures { Rights (spec.method_right names.now recorder method stmts.now) result }
 {
     let setting = Setting::of_recorder(names, recorder);
-    let mut scope = match names.recorders.as_slice().get(recorder as usize) {
-        Some(decl) => match decl.methods.as_slice().get(method as usize) {
-            Some(sig) => sig.params.try_copy(alloc)?.into_vec(),
-            None => Vec::new(alloc),
-        },
-        None => Vec::new(alloc),
-    };
-    check_block(alloc, &setting, &mut scope, stmts)
+    let mut scope = scope_of(alloc, names, recorder, method)?;
+    check_block(&setting, &mut scope, stmts)
 }

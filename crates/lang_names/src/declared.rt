@@ -3,6 +3,7 @@ ghost use Rattle.lang_names.specs.Known as spec;
 ghost use Rattle.std.specs.Prelude.{slice_get};
 
 use item_types::{Consume, ItemKind, Names, Produce, Text};
+use name_index::Index;
 use syntax_tree::Expr;
 
 pub(crate) fn contains(words: &[Text], word: &Text) -> bool
@@ -14,6 +15,14 @@ pub(crate) fn contains(words: &[Text], word: &Text) -> bool
         }
     }
     false
+}
+
+/// Whether a variable of this name is in scope.
+#[tactic(auto, using(crate::proofs::Scopes::has_contains))]
+pub(crate) fn in_scope(scope: &Index<'_>, word: &Text) -> bool
+    ensures { result ≡ spec.contains scope.now word.now }
+{
+    scope.place(word.as_str()).is_some()
 }
 
 /// Whether a field of this name is among these.

@@ -5,10 +5,11 @@ ghost use Rattle.lang_names.specs.Checked.{and_also};
 ghost use Rattle.lang_names.specs.Exprs as spec;
 ghost use Rattle.lang_names.specs.Exprs.{told_of, expr_right, with_told, first_names, left_of};
 
-use crate::declared::{all_in, consumed, contains, is_several, is_simple, names_field};
+use crate::declared::{all_in, consumed, contains, in_scope, is_several, is_simple, names_field};
 use crate::setting::Setting;
 use crate::wrong::{Wrong, fitting, known, later};
 use item_types::Text;
+use name_index::Index;
 use syntax_tree::{Expr, Link};
 
 /// The number that stands for a name that isn't there.
@@ -121,7 +122,7 @@ fn first_part(setting: &Setting<'_>, parts: &[Expr]) -> u32
 
 /// The first wrong name of an expression, where these names are in scope.
 #[cycle(exprs)]
-pub(crate) fn check_expr(setting: &Setting<'_>, scope: &[Text], x: &Expr) -> Result<(), Wrong>
+pub(crate) fn check_expr(setting: &Setting<'_>, scope: &Index<'_>, x: &Expr) -> Result<(), Wrong>
     ensures { result ≡ expr_right (known_of setting.now) scope.now x.now }
 {
     match x {
@@ -129,7 +130,7 @@ pub(crate) fn check_expr(setting: &Setting<'_>, scope: &[Text], x: &Expr) -> Res
         Expr::Bool { at: _, value: _ } => Ok(()),
         Expr::Long { at: _, value: _ } => Ok(()),
         Expr::Str { at: _, value: _ } => Ok(()),
-        Expr::Name { at, name } => known(contains(scope, name), *at),
+        Expr::Name { at, name } => known(in_scope(scope, name), *at),
         Expr::Get { at, item } => check_get(setting, *at, *item),
         Expr::All { at, item } => check_all(setting, *at, *item),
         Expr::New { at, bean, fields } => {
@@ -169,7 +170,7 @@ pub(crate) fn check_expr(setting: &Setting<'_>, scope: &[Text], x: &Expr) -> Res
 #[cycle(exprs)]
 pub(crate) fn check_exprs(
     setting: &Setting<'_>,
-    scope: &[Text],
+    scope: &Index<'_>,
     parts: &[Expr],
 ) -> Result<(), Wrong>
     ensures { result ≡ spec.all_checked (map (told_of (known_of setting.now)) parts.now) scope.now }
@@ -201,7 +202,7 @@ fn check_name_at(
 #[cycle(exprs)]
 fn check_bean(
     setting: &Setting<'_>,
-    scope: &[Text],
+    scope: &Index<'_>,
     at: u32,
     bean: u32,
     fields: &[(Text, Expr)],
@@ -222,7 +223,7 @@ fn check_bean(
 #[cycle(exprs)]
 fn check_field(
     setting: &Setting<'_>,
-    scope: &[Text],
+    scope: &Index<'_>,
     declared: &[Text],
     name: &Text,
     value: &Expr,
@@ -241,7 +242,7 @@ fn check_field(
 #[cycle(exprs)]
 fn check_fields(
     setting: &Setting<'_>,
-    scope: &[Text],
+    scope: &Index<'_>,
     declared: &[Text],
     fields: &[(Text, Expr)],
     written: &[(Text, Expr)],

@@ -5,12 +5,12 @@ ghost use Rattle.lang_names.specs.Exprs.{expr_right};
 ghost use Rattle.lang_names.specs.Stmts as spec;
 ghost use Rattle.lang_names.specs.Stmts.{Passes, Rights, Extends, leaves};
 
-use crate::declared::{carries_value, contains, produced};
+use crate::declared::{carries_value, contains, in_scope, produced};
 use crate::exprs::{NO_NUMBER, check_expr, check_exprs};
 use crate::setting::Setting;
 use crate::wrong::{NameFault, Wrong, fitting, known, later};
-use item_types::{Same, Seq, Text};
-use std::alloc::Global;
+use item_types::Text;
+use name_index::Index;
 use syntax_tree::{Expr, Invoke, Stmt};
 
 /// How many parameters that method has; none where there is no such method.
@@ -26,7 +26,7 @@ fn params_of(setting: &Setting<'_>, recorder: u32, method: u32) -> usize
     }
 }
 
-fn check_call(setting: &Setting<'_>, scope: &[Text], call: &Invoke) -> Result<(), Wrong>
+fn check_call(setting: &Setting<'_>, scope: &Index<'_>, call: &Invoke) -> Result<(), Wrong>
     ensures { result ≡ spec.call_right (known_of setting.now) scope.now call.now }
 {
     fitting(setting.records, call.at)?;
@@ -39,7 +39,7 @@ fn check_call(setting: &Setting<'_>, scope: &[Text], call: &Invoke) -> Result<()
 
 fn check_produce(
     setting: &Setting<'_>,
-    scope: &[Text],
+    scope: &Index<'_>,
     at: u32,
     item: u32,
     value: &Expr,
@@ -54,7 +54,7 @@ fn check_produce(
 
 fn check_both(
     setting: &Setting<'_>,
-    scope: &[Text],
+    scope: &Index<'_>,
     first: Result<(), Wrong>,
     value: &Expr,
 ) -> Result<(), Wrong>
@@ -75,29 +75,25 @@ fn leaving(checked: Result<(), Wrong>) -> Result<(), NameFault>
 }
 
 /// Brings a name in scope.
-fn bind(alloc: Global, scope: &mut Vec<Text>, name: &Text) -> Result<(), NameFault>
-    ensures told { Passes (Ok (scope.old.items ++ name.now ∷ [])) result scope.new.items }
-    ensures kept { OnOk result (Extends scope.old.items scope.new.items) }
+fn bind<'a>(scope: &mut Index<'a>, name: &'a Text) -> Result<(), NameFault>
+    ensures told { Passes (Ok (scope.old ++ name.now ∷ [])) result scope.new }
+    ensures kept { OnOk result (Extends scope.old scope.new) }
 {
-    let name = name.try_copy(alloc)?;
-    match scope.push(name) {
-        Ok(()) => Ok(()),
-        Err(_) => Err(NameFault::Memory),
-    }
+    scope.push(name.as_str())?;
+    Ok(())
 }
 
 /// Brings a name in scope where a test was right.
-fn bind_checked(
-    alloc: Global,
-    scope: &mut Vec<Text>,
+fn bind_checked<'a>(
+    scope: &mut Index<'a>,
     checked: Result<(), Wrong>,
-    name: &Text,
+    name: &'a Text,
 ) -> Result<(), NameFault>
-    ensures told { Passes (leaves checked (scope.old.items ++ name.now ∷ [])) result scope.new.items }
-    ensures kept { OnOk result (Extends scope.old.items scope.new.items) }
+    ensures told { Passes (leaves checked (scope.old ++ name.now ∷ [])) result scope.new }
+    ensures kept { OnOk result (Extends scope.old scope.new) }
 {
     match checked {
-        Ok(()) => bind(alloc, scope, name),
+        Ok(()) => bind(scope, name),
         Err(wrong) => Err(NameFault::Wrong(wrong)),
     }
 }
@@ -114,23 +110,22 @@ fn answer(checked: Result<(), Wrong>) -> Result<(), NameFault>
 
 /// Checks the names of a statement, and brings the name of a `let` in scope.
 #[cycle(blocks)]
-fn check_stmt(
-    alloc: Global,
+fn check_stmt<'a>(
     setting: &Setting<'_>,
-    scope: &mut Vec<Text>,
-    stmt: &Stmt,
+    scope: &mut Index<'a>,
+    stmt: &'a Stmt,
 ) -> Result<(), NameFault>
-    ensures told { Passes (spec.passing (known_of setting.now) stmt.now scope.old.items) result scope.new.items }
-    ensures kept { OnOk result (Extends scope.old.items scope.new.items) }
+    ensures told { Passes (spec.passing (known_of setting.now) stmt.now scope.old) result scope.new }
+    ensures kept { OnOk result (Extends scope.old scope.new) }
 {
     match stmt {
         Stmt::Let { at: _, name, value } => {
-            let checked = check_expr(setting, scope.as_slice(), value);
-            bind_checked(alloc, scope, checked, name)
+            let checked = check_expr(setting, scope, value);
+            bind_checked(scope, checked, name)
         }
         Stmt::LetCall { at: _, name, call } => {
-            let checked = check_call(setting, scope.as_slice(), call);
-            bind_checked(alloc, scope, checked, name)
+            let checked = check_call(setting, scope, call);
+            bind_checked(scope, checked, name)
         }
         Stmt::For {
             at: _,
@@ -138,8 +133,8 @@ fn check_stmt(
             list,
             block,
         } => {
-            let checked = check_expr(setting, scope.as_slice(), list);
-            check_loop(alloc, setting, scope, checked, name, block.as_slice())
+            let checked = check_expr(setting, scope, list);
+            check_loop(setting, scope, checked, name, block.as_slice())
         }
         Stmt::If {
             at: _,
@@ -147,8 +142,8 @@ fn check_stmt(
             block,
             other: None,
         } => {
-            let checked = check_expr(setting, scope.as_slice(), cond);
-            check_guarded(alloc, setting, scope, checked, block.as_slice())
+            let checked = check_expr(setting, scope, cond);
+            check_guarded(setting, scope, checked, block.as_slice())
         }
         Stmt::If {
             at: _,
@@ -156,24 +151,24 @@ fn check_stmt(
             block,
             other: Some(other),
         } => {
-            let checked = check_expr(setting, scope.as_slice(), cond);
-            check_guarded(alloc, setting, scope, checked, block.as_slice())?;
-            check_block(alloc, setting, scope, other.as_slice())
+            let checked = check_expr(setting, scope, cond);
+            check_guarded(setting, scope, checked, block.as_slice())?;
+            check_block(setting, scope, other.as_slice())
         }
-        Stmt::CallOf { call } => leaving(check_call(setting, scope.as_slice(), call)),
+        Stmt::CallOf { call } => leaving(check_call(setting, scope, call)),
         Stmt::Produce { at, item, value } => {
-            leaving(check_produce(setting, scope.as_slice(), *at, *item, value))
+            leaving(check_produce(setting, scope, *at, *item, value))
         }
-        Stmt::FailWith { at: _, value } => leaving(check_expr(setting, scope.as_slice(), value)),
-        Stmt::Print { at: _, value } => leaving(check_expr(setting, scope.as_slice(), value)),
-        Stmt::Return { at: _, value } => leaving(check_expr(setting, scope.as_slice(), value)),
+        Stmt::FailWith { at: _, value } => leaving(check_expr(setting, scope, value)),
+        Stmt::Print { at: _, value } => leaving(check_expr(setting, scope, value)),
+        Stmt::Return { at: _, value } => leaving(check_expr(setting, scope, value)),
         Stmt::Add { at: _, list, value } => {
-            let first = check_expr(setting, scope.as_slice(), list);
-            leaving(check_both(setting, scope.as_slice(), first, value))
+            let first = check_expr(setting, scope, list);
+            leaving(check_both(setting, scope, first, value))
         }
         Stmt::SetStatic { at, field, value } => {
             let first = known(contains(setting.statics, field), later(*at, 2));
-            leaving(check_both(setting, scope.as_slice(), first, value))
+            leaving(check_both(setting, scope, first, value))
         }
         Stmt::SetSelf {
             at: _,
@@ -182,7 +177,7 @@ fn check_stmt(
             value,
         } => {
             let first = known(contains(setting.fields, field), later(*dot, 1));
-            leaving(check_both(setting, scope.as_slice(), first, value))
+            leaving(check_both(setting, scope, first, value))
         }
         Stmt::SetField {
             at,
@@ -191,63 +186,60 @@ fn check_stmt(
             field: _,
             value,
         } => {
-            let first = known(contains(scope.as_slice(), name), *at);
-            leaving(check_both(setting, scope.as_slice(), first, value))
+            let first = known(in_scope(scope, name), *at);
+            leaving(check_both(setting, scope, first, value))
         }
     }
 }
 
 /// The statements of a `for`, behind the test of its list.
 #[cycle(blocks)]
-fn check_loop(
-    alloc: Global,
+fn check_loop<'a>(
     setting: &Setting<'_>,
-    scope: &mut Vec<Text>,
+    scope: &mut Index<'a>,
     checked: Result<(), Wrong>,
-    name: &Text,
-    block: &[Stmt],
+    name: &'a Text,
+    block: &'a [Stmt],
 ) -> Result<(), NameFault>
-    ensures told { Passes (leaves (and_also checked (spec.block_right (map (spec.passing (known_of setting.now)) block.now) (scope.old.items ++ name.now ∷ []))) scope.old.items) result scope.new.items }
-    ensures kept { OnOk result (scope.new.items ≡ scope.old.items) }
+    ensures told { Passes (leaves (and_also checked (spec.block_right (map (spec.passing (known_of setting.now)) block.now) (scope.old ++ name.now ∷ []))) scope.old) result scope.new }
+    ensures kept { OnOk result (scope.new ≡ scope.old) }
 {
     answer(checked)?;
     let outer = scope.len();
-    bind(alloc, scope, name)?;
-    check_block(alloc, setting, scope, block)?;
+    bind(scope, name)?;
+    check_block(setting, scope, block)?;
     scope.truncate(outer);
     Ok(())
 }
 
 /// The block of an `if`, behind the test of its condition.
 #[cycle(blocks)]
-fn check_guarded(
-    alloc: Global,
+fn check_guarded<'a>(
     setting: &Setting<'_>,
-    scope: &mut Vec<Text>,
+    scope: &mut Index<'a>,
     checked: Result<(), Wrong>,
-    block: &[Stmt],
+    block: &'a [Stmt],
 ) -> Result<(), NameFault>
-    ensures told { Rights (and_also checked (spec.block_right (map (spec.passing (known_of setting.now)) block.now) scope.old.items)) result }
-    ensures kept { OnOk result (scope.new.items ≡ scope.old.items) }
+    ensures told { Rights (and_also checked (spec.block_right (map (spec.passing (known_of setting.now)) block.now) scope.old)) result }
+    ensures kept { OnOk result (scope.new ≡ scope.old) }
 {
     answer(checked)?;
-    check_block(alloc, setting, scope, block)
+    check_block(setting, scope, block)
 }
 
 /// Checks the names of a block's statements, and leaves the scope as it was.
 #[cycle(blocks)]
-pub(crate) fn check_block(
-    alloc: Global,
+pub(crate) fn check_block<'a>(
     setting: &Setting<'_>,
-    scope: &mut Vec<Text>,
-    stmts: &[Stmt],
+    scope: &mut Index<'a>,
+    stmts: &'a [Stmt],
 ) -> Result<(), NameFault>
-    ensures told { Rights (spec.block_right (map (spec.passing (known_of setting.now)) stmts.now) scope.old.items) result }
-    ensures kept { OnOk result (scope.new.items ≡ scope.old.items) }
+    ensures told { Rights (spec.block_right (map (spec.passing (known_of setting.now)) stmts.now) scope.old) result }
+    ensures kept { OnOk result (scope.new ≡ scope.old) }
 {
     let outer = scope.len();
     for stmt in stmts {
-        check_stmt(alloc, setting, scope, stmt)?;
+        check_stmt(setting, scope, stmt)?;
     }
     scope.truncate(outer);
     Ok(())

@@ -5,5 +5,5 @@ use Rattle.lang_names.proofs.stmts.+blocks.Given as goal
 
 abbrev pub invariant-check_block-loop-stmt : goal.invariant-check_block-loop-stmt
 invariant-check_block-loop-stmt l =
-    (run (map (passing (known_of l.setting)) l.stmts) l.fn.scope.items ≡ run (map (passing (known_of l.setting)) (drop l.stmt-index l.stmts)) l.scope.items)
-    × Extends l.fn.scope.items l.scope.items
+    (run (map (passing (known_of l.setting)) l.stmts) l.fn.scope ≡ run (map (passing (known_of l.setting)) (drop l.stmt-index l.stmts)) l.scope)
+    × Extends l.fn.scope l.scope

@@ -1,0 +1,15 @@
+use Rattle.std.proofs.Common.{◌∙◌, ap, map, refl}
+use Rattle.item_types.specs.declared.decl.Names.{Names}
+use Rattle.item_types.specs.declared.decl.RecorderDecl.{RecorderDecl}
+use Rattle.lang_grammar.specs.Naming.{recorder_number}
+use Rattle.name_index.specs.Place.{place}
+use Rattle.name_directory.specs.Numbers.{number_at}
+use Rattle.name_directory.proofs.Found.{numbered}
+use Rattle.name_directory.proofs.directory.Directory.recorder_number.Goals as goal
+
+pub returns : goal.returns
+returns c =
+    c.number_at.ensures
+    ∙ ap number_at (c.copied.ensures ∙ c.get.ensures.value ∙ c.self.invariant.recorders c.as_str.result.now ∙ ap (place (map (λ (x : RecorderDecl). x.name) c.self.inside.names.now.recorders)) c.as_str.ensures)
+    ∙ numbered (λ (x : RecorderDecl). x.name) c.self.inside.names.now.recorders (map (λ (x : RecorderDecl). x.name) c.self.inside.names.now.recorders) c.args.word.now refl
+    ∙ ap (λ (names : Names). recorder_number names c.args.word.now) c.self.view_is
