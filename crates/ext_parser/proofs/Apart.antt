@@ -1,18 +1,13 @@
 -- Texts that were right beside those before them stand there once.
-use Rattle.std.proofs.Common.{◌≡◌, ◌∙◌, ap, sym, refl, subst, append_assoc, append-nil, ℕ, suc, Bool, true, false, not, cond, ◌&&◌, List, [], ◌∷◌, ◌++◌, map, Result, Ok, Err}
+use Rattle.std.proofs.Common.{◌≡◌, refl, ℕ, suc, Bool, true, false, not, cond, List, [], ◌∷◌, ◌++◌, map, Err}
 use Rattle.std.specs.Prelude.{codes}
 use Rattle.ext_draft.specs.Paths.{nth, inside}
-use Rattle.ext_parser.specs.Fits.{none_twice}
-use Rattle.ext_parser.specs.Place.{has}
-use Rattle.ext_parser.specs.SecondWalk.{Checked, right, then, fresh, known_at, all_fresh, all_known, row}
-use Rattle.ext_parser.specs.declared.fault.ProjectFault.{ProjectFault}
-use Rattle.ext_parser.specs.declared.fault.ProjectFault.TheVariants.{Repeated, Unknown}
+use Rattle.project_fit.specs.Fits.{none_twice}
+use Rattle.name_index.specs.Place.{has}
+use Rattle.ext_parser.specs.SecondWalk.{Checked, right, then, fresh, all_fresh, row}
+use Rattle.ext_parser.specs.declared.fault.ProjectFault.TheVariants.{Repeated}
+use Rattle.project_fit.proofs.Apart.{and-true}
 use Rattle.ext_parser.proofs.Numbers.{both}
-
-pub and-true : (a b : Bool) → a ≡ true → b ≡ true → (a && b) ≡ true
-and-true true true p q = refl
-and-true true false p q = q
-and-true false b p q = p
 
 fresh-by : (b : Bool) (path : List ℕ) → ◌≡◌ {A = Checked} (cond b (Err (Repeated path)) right) right → not b ≡ true
 fresh-by false path is = refl
@@ -35,20 +30,3 @@ row-apart name inner path n before (x ∷ xs) is =
     let named = both (fresh (inside (nth path n) ++ codes "name") before (name x)) (then (inner (inside (nth path n)) x) (λ _. later)) is in
     let parts = both (inner (inside (nth path n)) x) later named.1 in
     and-true _ _ (fresh-not (inside (nth path n) ++ codes "name") before (name x) named.0) (row-apart name inner path (suc n) (before ++ name x ∷ []) xs parts.1)
-
-pub and-second : (a b x y : Bool) → x ≡ true → x ≡ a → y ≡ b → y ≡ (a && b)
-and-second true b x y holds first second = second
-and-second false b x y holds first second = cc
-
-pub and-parts : (a b : Bool) → (a && b) ≡ true → (a ≡ true) × (b ≡ true)
-and-parts true b is = (refl, is)
-and-parts false b is = cc
-
--- more texts after those that stand there once
-pub apart-append : (before xs ys : List (List ℕ)) → none_twice before xs ≡ true → none_twice (before ++ xs) ys ≡ true → none_twice before (xs ++ ys) ≡ true
-apart-append before [] ys first later = subst (λ (all : List (List ℕ)). none_twice all ys ≡ true) (append-nil before) later
-apart-append before (x ∷ xs) ys first later =
-    let parts = and-parts (not (has before x)) (none_twice (before ++ x ∷ []) xs) first in
-    and-true _ _ parts.0
-    (apart-append (before ++ x ∷ []) xs ys parts.1
-    (subst (λ (all : List (List ℕ)). none_twice all ys ≡ true) (sym (append_assoc before (x ∷ []) xs)) later))

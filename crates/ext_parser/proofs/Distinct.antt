@@ -1,5 +1,5 @@
 -- Texts that are known and stand there once have numbers that stand there once.
-use Rattle.std.proofs.Common.{◌≡◌, ◌⊎◌, inl, inr, ◌≤◌, ◌<◌, ◌+◌, ◌∙◌, ap, sym, refl, subst, arith, ℕ, suc, Bool, true, false, not, cond, ◌&&◌, ◌||◌, ◌==◌, List, [], ◌∷◌, ◌++◌, map, length, Option, Some, None, Result, Ok, Err}
+use Rattle.std.proofs.Common.{◌≡◌, inl, inr, ◌+◌, ◌∙◌, ap, sym, refl, subst, arith, ℕ, suc, Bool, true, false, not, cond, ◌==◌, List, [], ◌∷◌, ◌++◌, map, length, Option, Some, None, Err}
 use Rattle.std.specs.List.{list_all, list_any, position_from}
 use Rattle.std.specs.Prelude.{is_some, unwrap_or, nat_lt}
 use Rattle.std.specs.Str.{bytes_eq}
@@ -8,23 +8,15 @@ use Rattle.std.proofs.lemmas.List.{map-append}
 use Rattle.std.proofs.lemmas.List.Folds.{list_all-append}
 use Rattle.std.proofs.lemmas.Slice.Eq.{bytes_eq-Decides}
 use Rattle.ext_draft.specs.Paths.{nth}
-use Rattle.ext_parser.specs.Fits.{no_number_twice}
-use Rattle.ext_parser.specs.Place.{place, has}
+use Rattle.project_fit.specs.Fits.{no_number_twice}
+use Rattle.name_index.specs.Place.{place, has}
 use Rattle.ext_parser.specs.Declarations.{number}
-use Rattle.ext_parser.specs.SecondWalk.{Checked, right, then, fresh, known_at, all_known}
-use Rattle.ext_parser.specs.declared.fault.ProjectFault.{ProjectFault}
+use Rattle.ext_parser.specs.SecondWalk.{Checked, right, fresh, known_at, all_known}
 use Rattle.ext_parser.specs.declared.fault.ProjectFault.TheVariants.{Unknown}
-use Rattle.ext_parser.proofs.Apart.{and-true, and-parts, fresh-not}
+use Rattle.name_index.proofs.Places.{from-first}
+use Rattle.project_fit.proofs.Apart.{and-true, and-parts}
+use Rattle.ext_parser.proofs.Apart.{fresh-not}
 use Rattle.ext_parser.proofs.Numbers.{both, known-number}
-
-from-by : (b : Bool) (test : List ℕ → Bool) (i k : ℕ) (names : List (List ℕ)) → cond b (Some i) (position_from test (i + 1) names) ≡ Some k → (position_from test (i + 1) names ≡ Some k → i + 1 ≤ k) → i ≤ k
-from-by true test i k names is later = let e : i ≡ k = cc in omega (arith, e)
-from-by false test i k names is later = let below = later is in omega (arith, below)
-
--- a place that is found is none before the first
-from-first : (test : List ℕ → Bool) (i k : ℕ) (names : List (List ℕ)) → position_from test i names ≡ Some k → i ≤ k
-from-first test i k [] is = cc
-from-first test i k (x ∷ names) is = from-by (test x) test i k names is (from-first test (i + 1) k names)
 
 -- two texts with one place are one text
 same-by : (a b : Bool) (t u x : List ℕ) (i k : ℕ) (names : List (List ℕ)) → bytes_eq t x ≡ a → bytes_eq u x ≡ b

@@ -1,4 +1,3 @@
-pub mod Places
 pub mod Keys
 pub mod Whole
 pub mod Rows
@@ -6,4 +5,5 @@ pub mod Trees
 pub mod Numbers
 pub mod Apart
 pub mod Distinct
+pub mod Steps
 pub mod Sound

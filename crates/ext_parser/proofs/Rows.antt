@@ -1,5 +1,5 @@
 -- A row of things, when one more of them was right.
-use Rattle.std.proofs.Common.{◌≡◌, ◌⊎◌, ◌∙◌, ◌<◌, ◌+◌, inl, inr, ap, sym, refl, subst, add-one, append_assoc, ℕ, suc, List, [], ◌∷◌, ◌++◌, map, length, drop, drop-cons, get_or, Result, Ok, Err}
+use Rattle.std.proofs.Common.{◌≡◌, ◌⊎◌, ◌∙◌, ◌<◌, ◌+◌, inl, inr, ap, sym, refl, add-one, append_assoc, ℕ, suc, List, [], ◌∷◌, ◌++◌, map, length, drop, drop-cons, get_or, Result, Ok, Err}
 use Rattle.std.specs.Prelude.{codes}
 use Rattle.ext_draft.specs.Paths.{nth, inside}
 use Rattle.ext_parser.specs.SecondWalk.{Checked, right, then, fresh, row}

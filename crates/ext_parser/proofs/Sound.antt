@@ -1,20 +1,18 @@
 -- The names, steps and final items of a project fit each other.
-use Rattle.std.proofs.Common.{◌≡◌, inl, inr, ◌≤◌, ◌+◌, ◌∙◌, ap, sym, refl, subst, arith, ℕ, suc, Bool, true, false, not, ◌&&◌, List, [], ◌∷◌, ◌++◌, map, length, Option, Some, None, Result, Ok, Err, IfOk, length-append}
+use Rattle.std.proofs.Common.{◌≡◌, inl, inr, ◌≤◌, ◌+◌, ◌∙◌, ap, sym, refl, subst, arith, ℕ, suc, Bool, true, List, [], ◌∷◌, ◌++◌, map, length, Result, Ok, Err, IfOk, length-append}
 use Rattle.std.specs.List.{All, list_all, flat_map}
 use Rattle.std.specs.Prelude.{codes, nat_le, IsTrue}
 use Rattle.std.proofs.lemmas.Bool.Decides.{leb_tells}
 use Rattle.std.proofs.lemmas.List.{length-map, map-id, map-append}
-use Rattle.std.proofs.lemmas.List.Elements.{All-cons, All-head, All-nil, All-tail}
+use Rattle.std.proofs.lemmas.List.Elements.{All-head, All-tail}
 use Rattle.std.proofs.lemmas.List.Folds.{list_all-append, list_all-map}
 use Rattle.item_types.specs.declared.decl.BeanDecl.{BeanDecl}
 use Rattle.item_types.specs.declared.decl.ItemDecl.{ItemDecl}
 use Rattle.item_types.specs.declared.decl.ItemKind.{ItemKind}
 use Rattle.item_types.specs.declared.decl.ItemKind.TheVariants.{Simple, Multi, Ordered, Empty}
-use Rattle.item_types.specs.declared.decl.MethodSig.{MethodSig}
 use Rattle.item_types.specs.declared.decl.RecorderDecl.{RecorderDecl}
 use Rattle.item_types.specs.declared.step.Consume.{Consume}
 use Rattle.item_types.specs.declared.step.Produce.{Produce}
-use Rattle.item_types.specs.declared.step.StepDecl.{StepDecl}
 use Rattle.ext_draft.specs.Declarations.{method_count}
 use Rattle.ext_draft.specs.DraftOfTheBytes.{draft}
 use Rattle.ext_draft.specs.Limits.{IsName, AreNames, IsRightKind, IsRightItem, IsRightBean, IsRightMethod, IsRightRecorder, IsRightStep, IsRightExtension, KeepsLimits}
@@ -28,15 +26,18 @@ use Rattle.ext_draft.specs.declared.draft.DraftProduce.{DraftProduce}
 use Rattle.ext_draft.specs.declared.draft.DraftRecorder.{DraftRecorder}
 use Rattle.ext_draft.specs.declared.draft.DraftStep.{DraftStep}
 use Rattle.ext_draft.specs.declared.fault.DraftFault.{DraftFault}
-use Rattle.ext_parser.specs.Fits.{none_twice, are_names, kind_fits, item_fits, bean_fits, method_fits, method_names, recorder_fits, method_total, items_fit, beans_fit, recorders_fit, names_fit, numbers_fit, step_numbers_fit, step_fits, steps_fit, fits}
+use Rattle.project_fit.specs.Fits.{none_twice, are_names, kind_fits, item_fits, bean_fits, method_fits, method_names, recorder_fits, method_total, items_fit, beans_fit, recorders_fit, names_fit, numbers_fit, step_numbers_fit, step_fits, steps_fit, fits}
 use Rattle.ext_parser.specs.Declarations.{number, consume_of, produce_of, keys_on, step_of, steps_of, names_of, method_of, recorder_of, beans_of, recorders_of}
-use Rattle.ext_parser.specs.ProjectOfTheBytes.{project_of, project_of_draft, project, texts_of}
-use Rattle.ext_parser.specs.SecondWalk.{Checked, right, then, fresh, all_fresh, all_known, row, item_right, bean_right, method_right, recorder_right, step_right, extension_right, extensions_right, names_with, nothing_before, known_of, file_right, item_names, items_of}
+use Rattle.ext_parser.specs.ProjectOfTheBytes.{project_of, project_of_draft, project}
+use Rattle.ext_parser.specs.SecondWalk.{Checked, right, then, fresh, all_fresh, all_known, row, item_right, bean_right, method_right, recorder_right, step_right, extension_right, extensions_right, names_with, nothing_before, known_of, file_right, items_of}
 use Rattle.ext_parser.specs.declared.known.Known.{Known}
 use Rattle.ext_parser.specs.declared.project.Project.{Project}
 use Rattle.ext_parser.specs.declared.second_walk.Before.{Before}
 use Rattle.ext_parser.specs.declared.texts.Texts.{Texts}
-use Rattle.ext_parser.proofs.Apart.{and-true, fresh-apart, row-apart, apart-append}
+use Rattle.project_fit.proofs.Apart.{and-true, apart-append}
+use Rattle.ext_parser.proofs.Apart.{fresh-apart, row-apart}
+use Rattle.ext_parser.proofs.Steps.{apart-steps}
+use Rattle.project_fit.proofs.FullNames.{none}
 use Rattle.ext_parser.proofs.Distinct.{numbers-apart, numbers-below}
 use Rattle.ext_parser.proofs.Numbers.{both, then-ok, extension-right, IsRight, kept-checked, same-lengths}
 
@@ -306,11 +307,13 @@ steps-true d sound =
     let size = length (items_of d.extensions) in
     let same : size ≡ length known.items = sym (length-map (items_of d.extensions) (λ (i : ItemDecl). i.name)) in
     and-true _ _ (le-true _ 2048 (omega (arith, sound.keeps.steps, same-lengths known.items on d.extensions)))
+    (and-true _ _
     (test-all (steps_of known.items on) (step_fits size) known
     (λ prefix before e good rows.
     row-test IsRightStep (λ (s : DraftStep). s.name) (step_right known) (step_of known.items on e.name) (step_fits size)
     (step-true known on size e.name same good.name) (prefix ++ codes "steps") 0 [] e.steps good.steps rows.steps)
     0 nothing_before d.extensions sound.good sound.right_names)
+    (apart-steps known on 0 nothing_before [] d.extensions sound.good sound.right_names none))
 
 finals-true : (d : Draft) → IsSound d → numbers_fit (length (items_of d.extensions)) 2048 (map (number (known_of d).items) d.finals) ≡ true
 finals-true d sound =

@@ -1,15 +1,14 @@
 -- The trees of a file's texts, when more of them were read.
-use Rattle.std.proofs.Common.{◌≡◌, ◌⊎◌, ◌∙◌, ◌+◌, ◌<◌, ◌≤◌, inl, inr, ap, sym, refl, subst, arith, add-one, add-zero, append_assoc, append-nil, ℕ, suc, List, [], ◌∷◌, ◌++◌, map, length, length-append, drop, drop-cons, get_or, Result, Ok, Err}
+use Rattle.std.proofs.Common.{◌≡◌, ◌⊎◌, ◌∙◌, ◌+◌, ◌<◌, ◌≤◌, inl, inr, ap, sym, refl, arith, add-one, append_assoc, ℕ, suc, List, [], ◌∷◌, ◌++◌, length, length-append, drop, drop-cons, get_or, Result, Ok, Err}
 use Rattle.std.specs.List.{flat_map}
 use Rattle.std.specs.Prelude.{codes}
 use Rattle.item_types.specs.declared.decl.Names.{Names}
-use Rattle.syntax_tree.specs.declared.tree.Body.{Body}
 use Rattle.syntax_tree.specs.declared.tree.Method.{Method}
 use Rattle.ext_draft.specs.Paths.{nth, inside}
 use Rattle.ext_draft.specs.declared.draft.DraftExtension.{DraftExtension}
 use Rattle.ext_draft.specs.declared.draft.DraftRecorder.{DraftRecorder}
 use Rattle.ext_parser.specs.SecondWalk.{then}
-use Rattle.ext_parser.specs.ThirdWalk.{methods_at, lists_at, bodies_at, extension_texts, texts_at, texts_with, no_texts}
+use Rattle.ext_parser.specs.ThirdWalk.{methods_at, lists_at, extension_texts, texts_at, texts_with}
 use Rattle.ext_parser.specs.declared.fault.ProjectFault.{ProjectFault}
 use Rattle.ext_parser.specs.declared.fault.ProjectFault.TheVariants.{Memory}
 use Rattle.ext_parser.specs.declared.texts.Texts.{Texts}

@@ -8,7 +8,6 @@ use Rattle.item_types.specs.declared.decl.RecorderDecl.{RecorderDecl}
 use Rattle.item_types.specs.declared.step.Consume.{Consume}
 use Rattle.item_types.specs.declared.step.Produce.{Produce}
 use Rattle.item_types.specs.declared.step.StepDecl.{StepDecl}
-use Rattle.ext_draft.specs.declared.draft.Draft.{Draft}
 use Rattle.ext_draft.specs.declared.draft.DraftConsume.{DraftConsume}
 use Rattle.ext_draft.specs.declared.draft.DraftExtension.{DraftExtension}
 use Rattle.ext_draft.specs.declared.draft.DraftMethod.{DraftMethod}
@@ -16,7 +15,7 @@ use Rattle.ext_draft.specs.declared.draft.DraftProduce.{DraftProduce}
 use Rattle.ext_draft.specs.declared.draft.DraftRecorder.{DraftRecorder}
 use Rattle.ext_draft.specs.declared.draft.DraftStep.{DraftStep}
 use Rattle.ext_draft.specs.declared.draft.Setting.{Setting}
-use Rattle.ext_parser.specs.Place.{place, has}
+use Rattle.name_index.specs.Place.{place, has}
 use Rattle.ext_parser.specs.SecondWalk.{items_of}
 
 -- an item's number: its place among all items of the file

@@ -1,7 +1,5 @@
-pub mod Place
 pub mod Faults
 pub mod SecondWalk
 pub mod Declarations
 pub mod ThirdWalk
 pub mod ProjectOfTheBytes
-pub mod Fits

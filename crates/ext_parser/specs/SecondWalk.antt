@@ -1,5 +1,5 @@
 -- The second walk over a project file: the names in order, each beside those that it may not repeat and among those that it has to be. This project's own.
-use Rattle.std.specs.Prelude.{ℕ, suc, List, [], ◌∷◌, ◌++◌, map, Bool, cond, nat_le, length, Option, is_some, Result, Ok, Err, codes}
+use Rattle.std.specs.Prelude.{ℕ, suc, List, [], ◌∷◌, ◌++◌, map, cond, Result, Ok, Err, codes}
 use Rattle.std.specs.List.{flat_map}
 use Rattle.item_types.specs.declared.decl.BeanDecl.{BeanDecl}
 use Rattle.item_types.specs.declared.decl.ItemDecl.{ItemDecl}
@@ -12,7 +12,7 @@ use Rattle.ext_draft.specs.declared.draft.DraftProduce.{DraftProduce}
 use Rattle.ext_draft.specs.declared.draft.DraftRecorder.{DraftRecorder}
 use Rattle.ext_draft.specs.declared.draft.DraftStep.{DraftStep}
 use Rattle.ext_draft.specs.declared.draft.Setting.{Setting}
-use Rattle.ext_parser.specs.Place.{has}
+use Rattle.name_index.specs.Place.{has}
 use Rattle.ext_parser.specs.declared.fault.ProjectFault.{ProjectFault}
 use Rattle.ext_parser.specs.declared.fault.ProjectFault.TheVariants.{Repeated, Unknown}
 use Rattle.ext_parser.specs.declared.known.Known.{Known}

@@ -1,11 +1,11 @@
 ghost use Rattle.std.specs.Prelude.{◌≡◌, ◌∷◌, [], ◌++◌, not, IfOk};
 ghost use Rattle.std.specs.List.{list_all};
 ghost use Rattle.ext_parser.specs.Declarations.{is_active, keys_on};
-ghost use Rattle.ext_parser.specs.Place.{has};
+ghost use Rattle.name_index.specs.Place.{has};
 
-use crate::index::Index;
 use ext_draft::{DraftStep, Setting};
 use item_types::{Memory, Text};
+use name_index::Index;
 use std::alloc::Global;
 
 /// The keys of `config` that are true.

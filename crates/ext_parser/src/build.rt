@@ -7,7 +7,6 @@ ghost use Rattle.ext_parser.specs.SecondWalk.{item_names, items_of, then};
 
 use crate::active::{is_active, keys_on};
 use crate::fault::ProjectFault;
-use crate::index::Index;
 use crate::mention::numbered;
 use crate::project::Project;
 use crate::second_walk::names_of_items;
@@ -17,6 +16,7 @@ use ext_draft::{Draft, DraftExtension, DraftMethod, DraftRecorder, DraftStep};
 use item_types::{
     BeanDecl, ItemDecl, Memory, MethodSig, Names, RecorderDecl, Same, Seq, StepDecl, Text,
 };
+use name_index::Index;
 use std::alloc::Global;
 use step_lang::Methods;
 

@@ -1,4 +1,4 @@
-use crate::index::Index;
+use name_index::Index;
 
 /// What a file's names may stand for.
 #[derive(Drop)]

@@ -5,9 +5,6 @@
 mod active;
 mod build;
 mod fault;
-mod fitting;
-mod index;
-mod item_numbers;
 mod known;
 mod laws;
 mod lists;
@@ -21,9 +18,9 @@ mod third_walk;
 
 pub use ext_draft::is_name;
 pub use fault::ProjectFault;
-pub use fitting::fits;
 pub use laws::{project_fits, project_is_numbered, project_of_cut_bytes};
 pub use project::Project;
+pub use project_fit::{fits, fitting_is_numbered};
 pub use read::read_project;
 pub use step_lang::{Body, LangFault, Method, Methods};
 

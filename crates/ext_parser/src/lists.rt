@@ -3,10 +3,10 @@ ghost use Rattle.ext_draft.specs.Paths.{nth};
 ghost use Rattle.ext_parser.specs.SecondWalk.{all_fresh, all_known, fresh, known_at};
 
 use crate::fault::ProjectFault;
-use crate::index::Index;
 use crate::named::Named;
 use ext_draft::{nth, path_of};
 use item_types::{Seq, Text};
+use name_index::Index;
 use std::alloc::Global;
 
 /// That the text at entry `index` of the list at `path` is none of those before it.

@@ -1,10 +1,10 @@
 ghost use Rattle.std.specs.Prelude.{◌≡◌, ◌<◌, ◌^◌, length, map, IfOk, ℕ};
 ghost use Rattle.ext_parser.specs.Declarations.{number};
 
-use crate::index::Index;
 use crate::named::Named;
 use ext_draft::{DraftConsume, DraftProduce};
 use item_types::{Consume, Memory, Produce, Seq, Text};
+use name_index::Index;
 use std::alloc::Global;
 
 /// An entry of a list that names an item, and what it is once the item's number is known.

@@ -1,7 +1,7 @@
 ghost use Rattle.std.specs.Prelude.{◌≡◌, List, ℕ};
 
 use ext_draft::{DraftConsume, DraftMethod, DraftProduce, DraftRecorder, DraftStep};
-use item_types::{BeanDecl, ItemDecl, MethodSig, RecorderDecl, Text};
+use item_types::{BeanDecl, ItemDecl, Text};
 
 /// What a name is given to, or what names an item.
 pub trait Named: Drop {
@@ -74,21 +74,5 @@ impl Named for Text {
 
     fn named(&self) -> &str {
         self.as_str()
-    }
-}
-
-impl Named for MethodSig {
-    ghost named = { λ m. m.name };
-
-    fn named(&self) -> &str {
-        self.name.as_str()
-    }
-}
-
-impl Named for RecorderDecl {
-    ghost named = { λ r. r.name };
-
-    fn named(&self) -> &str {
-        self.name.as_str()
     }
 }

@@ -1,6 +1,6 @@
 ghost use Rattle.std.specs.Prelude.{◌≡◌, ◌⊎◌, Err, IfOk, IsTrue};
 ghost use Rattle.item_types.specs.Numbered.{IsNumbered};
-ghost use Rattle.ext_parser.specs.Fits.{fits};
+ghost use Rattle.project_fit.specs.Fits.{fits};
 ghost use Rattle.ext_parser.specs.ProjectOfTheBytes.{project};
 
 use crate::build::project_of;

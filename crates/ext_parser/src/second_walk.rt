@@ -4,7 +4,6 @@ ghost use Rattle.ext_parser.specs.SecondWalk.{Checked, bean_right, conditions_ri
 ghost use Rattle.ext_parser.specs.declared.known.Known.{Known};
 
 use crate::fault::ProjectFault;
-use crate::index::Index;
 use crate::known::Known;
 use crate::lists::{all_fresh_at, all_known_at, texts_known_at};
 use crate::named::Named;
@@ -12,6 +11,7 @@ use ext_draft::{
     Draft, DraftExtension, DraftMethod, DraftRecorder, DraftStep, Setting, inside_nth, path_of,
 };
 use item_types::{BeanDecl, ItemDecl, Memory, Seq, Text};
+use name_index::Index;
 use std::alloc::Global;
 
 /// A thing with a name that stands in a row of its kind.

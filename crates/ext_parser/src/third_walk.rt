@@ -7,10 +7,10 @@ ghost use Rattle.ext_parser.specs.ThirdWalk.{bodies_at, body_at, extension_texts
 
 use crate::build::step_of;
 use crate::fault::ProjectFault;
-use crate::index::Index;
 use crate::texts::Texts;
 use ext_draft::{DraftExtension, DraftMethod, DraftRecorder, DraftStep, inside_nth, path_of};
 use item_types::{Memory, Names, Seq, StepDecl, Text};
+use name_index::Index;
 use std::alloc::Global;
 use step_lang::{Body, LangFault, Method, parse_body, parse_method};
 

@@ -1,6 +1,6 @@
 use Rattle.std.proofs.Common.{◌≡◌, drop}
 use Rattle.std.specs.List.{list_all}
-use Rattle.ext_parser.specs.Place.{has}
+use Rattle.name_index.specs.Place.{has}
 use Rattle.ext_parser.proofs.active.all_on.Given as goal
 
 -- the keys so far are true

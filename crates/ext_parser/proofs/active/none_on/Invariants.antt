@@ -1,6 +1,6 @@
 use Rattle.std.proofs.Common.{◌≡◌, drop, not}
 use Rattle.std.specs.List.{list_all}
-use Rattle.ext_parser.specs.Place.{has}
+use Rattle.name_index.specs.Place.{has}
 use Rattle.ext_parser.proofs.active.none_on.Given as goal
 
 -- none of the keys so far is true

@@ -1,4 +1,4 @@
-use Rattle.std.proofs.Common.{◌≡◌, ◌∙◌, ◌+◌, ap, sym, suc, add-one, List, ◌∷◌, drop, drop-cons}
+use Rattle.std.proofs.Common.{◌≡◌, ◌∙◌, ap, sym, suc, add-one, List, ◌∷◌, drop, drop-cons}
 use Rattle.std.specs.Prelude.{codes}
 use Rattle.ext_draft.specs.Paths.{nth, inside}
 use Rattle.ext_draft.specs.declared.draft.DraftExtension.{DraftExtension}

@@ -1,4 +1,4 @@
-use Rattle.std.proofs.Common.{◌≡◌, ◌∙◌, ap, List, ℕ, [], ◌∷◌, ◌++◌}
+use Rattle.std.proofs.Common.{◌∙◌, ap, List, ℕ, [], ◌∷◌, ◌++◌}
 use Rattle.ext_parser.proofs.Rows.{row-on}
 use Rattle.ext_parser.proofs.second_walk.row.Goals as goal
 

@@ -1,6 +1,5 @@
-use Rattle.std.proofs.Common.{◌≡◌, ◌++◌, drop, map, List, ℕ, Result, Ok}
+use Rattle.std.proofs.Common.{◌≡◌, ◌++◌, drop, map, Ok}
 use Rattle.ext_parser.specs.SecondWalk.{row, then}
-use Rattle.ext_parser.specs.declared.fault.ProjectFault.{ProjectFault}
 use Rattle.ext_parser.proofs.second_walk.row.Given as goal
 
 -- what is left comes after the names so far

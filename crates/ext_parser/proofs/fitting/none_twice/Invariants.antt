@@ -1,7 +1,0 @@
-use Rattle.std.proofs.Common.{◌≡◌, [], drop, map}
-use Rattle.ext_parser.specs.Fits.{none_twice}
-use Rattle.ext_parser.proofs.fitting.none_twice.Given as goal
-
--- what is left comes after the names so far
-abbrev pub invariant-loop-thing : goal.invariant-loop-thing
-invariant-loop-thing g l = none_twice [] (map g.M.Named.named l.things) ≡ none_twice l.before (map g.M.Named.named (drop l.thing-index l.things))
