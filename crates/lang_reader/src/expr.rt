@@ -6,7 +6,6 @@ ghost use Rattle.lang_reader.specs.Compared.{compared_with};
 ghost use Rattle.lang_grammar.specs.Rules as spec;
 
 use crate::cursor::Cursor;
-use crate::naming::bean_number;
 use crate::reading::{Lang, name, sees_comparison};
 use crate::simple::simple;
 use item_types::{Boxed, Memory, Seq, Text};
@@ -356,7 +355,7 @@ fn made(lang: &Lang<'_>, tokens: &mut Cursor<'_>, left: usize) -> Result<Expr, P
     let at = tokens.sign(left, Mark::New)?;
     let word = name(lang.alloc, tokens, left)?;
     let fields = fields(lang, tokens, left)?;
-    let bean = bean_number(lang.names, &word);
+    let bean = lang.names.bean_number(&word);
     Ok(Expr::New { at, bean, fields })
 }
 

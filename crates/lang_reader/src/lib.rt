@@ -5,7 +5,6 @@
 mod block;
 mod cursor;
 mod expr;
-mod naming;
 mod parse;
 mod plain;
 mod reading;

@@ -5,8 +5,9 @@ ghost use Rattle.lang_grammar.specs.Text.{IsText, TextStuck, Told};
 
 use crate::reading::Lang;
 use crate::text::read_text;
-use item_types::{Names, Seq};
+use item_types::Seq;
 use lang_grammar::LangFault;
+use name_directory::Directory;
 use std::alloc::Global;
 use syntax_tree::Stmt;
 
@@ -16,10 +17,10 @@ use syntax_tree::Stmt;
 /// # Errors
 /// `Token`, `TooDeep` or `Syntax` at the token where the text is stuck, exactly where it is no
 /// sentence; `Memory` for want of memory.
-pub fn parse_text(
+pub fn parse_text<'a>(
     alloc: Global,
     text: &str,
-    names: &Names,
+    names: &'a Directory<'a>,
     step: bool,
 ) -> Result<Seq<Stmt>, LangFault>
     requires { length text.now < 2 ^ 32 }

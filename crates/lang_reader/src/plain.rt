@@ -3,7 +3,6 @@ ghost use Rattle.lang_grammar.specs.Rules as spec;
 
 use crate::cursor::Cursor;
 use crate::expr::{expr, exprs};
-use crate::naming::{item_number, method_number, recorder_number};
 use crate::reading::{Lang, name};
 use item_types::{Seq, Text};
 use lang_grammar::ParseError;
@@ -31,8 +30,8 @@ fn invoke(lang: &Lang<'_>, tokens: &mut Cursor<'_>, left: usize) -> Result<Invok
     tokens.sign(left, Mark::Dot)?;
     let word = name(lang.alloc, tokens, left)?;
     let args = arguments(lang, tokens, left)?;
-    let recorder = recorder_number(lang.names, &owner);
-    let method = method_number(lang.names, &owner, &word);
+    let recorder = lang.names.recorder_number(&owner);
+    let method = lang.names.method_number(&owner, &word);
     Ok(Invoke {
         at,
         recorder,
@@ -128,7 +127,7 @@ fn produce_form(lang: &Lang<'_>, tokens: &mut Cursor<'_>, left: usize) -> Result
     let word = name(lang.alloc, tokens, left)?;
     let value = argument(lang, tokens, left)?;
     tokens.sign(left, Mark::Semi)?;
-    let item = item_number(lang.names, &word);
+    let item = lang.names.item_number(&word);
     Ok(Stmt::Produce { at, item, value })
 }
 

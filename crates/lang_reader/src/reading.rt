@@ -4,16 +4,17 @@ ghost use Rattle.lang_grammar.specs.Rules as spec;
 ghost use Rattle.lang_grammar.specs.Table.{begins_stmt, compares};
 
 use crate::cursor::Cursor;
-use item_types::{Names, Same, Text};
+use item_types::{Same, Text};
 use lang_grammar::ParseError;
 use lang_tokens::{Mark, Token};
+use name_directory::Directory;
 use std::alloc::Global;
 
 /// What a text is read as: a step's body, or a recorder's method; what is declared; and where
 /// the tree's memory comes from.
 pub(crate) struct Lang<'a> {
     pub alloc: Global,
-    pub names: &'a Names,
+    pub names: &'a Directory<'a>,
     pub step: bool,
 }
 

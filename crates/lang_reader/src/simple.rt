@@ -3,7 +3,6 @@ ghost use Rattle.lang_grammar.specs.Place.{Gives};
 ghost use Rattle.lang_grammar.specs.Rules as spec;
 
 use crate::cursor::Cursor;
-use crate::naming::item_number;
 use crate::reading::{Lang, name, number, text};
 use lang_grammar::ParseError;
 use lang_tokens::{Mark, Token};
@@ -72,7 +71,7 @@ fn got(lang: &Lang<'_>, tokens: &mut Cursor<'_>, left: usize) -> Result<Expr, Pa
 {
     let at = tokens.sign(left, Mark::Get)?;
     let word = name(lang.alloc, tokens, left)?;
-    let item = item_number(lang.names, &word);
+    let item = lang.names.item_number(&word);
     Ok(Expr::Get { at, item })
 }
 
@@ -82,7 +81,7 @@ fn all_of(lang: &Lang<'_>, tokens: &mut Cursor<'_>, left: usize) -> Result<Expr,
 {
     let at = tokens.sign(left, Mark::All)?;
     let word = name(lang.alloc, tokens, left)?;
-    let item = item_number(lang.names, &word);
+    let item = lang.names.item_number(&word);
     Ok(Expr::All { at, item })
 }
 

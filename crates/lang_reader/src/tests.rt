@@ -1,5 +1,6 @@
 use crate::{LangFault, parse_text};
 use item_types::{BeanDecl, ItemDecl, ItemKind, MethodSig, Names, RecorderDecl, Same, Seq, Text};
+use name_directory::{Directory, Register};
 use std::alloc::Global;
 use std::test::Fail;
 use syntax_tree::Body;
@@ -48,7 +49,9 @@ fn read(alloc: Global, step: bool, text: &str) -> Result<Result<usize, LangFault
     if text.len() > 65535 {
         return Ok(Err(LangFault::Memory));
     }
-    match parse_text(alloc, text, &names, step) {
+    let register = Register::new(alloc, &names)?;
+    let directory = Directory::new(&names, &register);
+    match parse_text(alloc, text, &directory, step) {
         Ok(stmts) => Ok(Ok(stmts.len())),
         Err(fault) => Ok(Err(fault)),
     }
@@ -156,16 +159,18 @@ fn sixty_four_open_forms_are_read_and_one_more_is_too_deep(rt: HostRuntime) -> R
 #[test]
 fn blanks_between_tokens_make_no_difference(rt: HostRuntime) -> Result<(), Fail> {
     let names = names(rt.alloc())?;
+    let register = Register::new(rt.alloc(), &names)?;
+    let directory = Directory::new(&names, &register);
     let loose = parse_text(
         rt.alloc(),
         "let x=1+ 2;produce T ( [x,\"a\\n\"] ) ;",
-        &names,
+        &directory,
         true,
     );
     let printed = parse_text(
         rt.alloc(),
         "let x = 1 + 2; produce T([x, \"a\\n\"]);",
-        &names,
+        &directory,
         true,
     );
     match (loose, printed) {

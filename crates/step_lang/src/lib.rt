@@ -9,7 +9,8 @@ mod print;
 
 pub use lang_grammar::LangFault;
 pub use law::{one_body, one_method};
-pub use parse::{parse_body, parse_method};
+pub use name_directory::{Directory, Register};
+pub use parse::{parse_body, parse_body_in, parse_method, parse_method_in};
 pub use print::{print_body, print_method};
 pub use syntax_tree::{Body, Expr, Invoke, Link, Method, Methods, Stmt};
 

@@ -8,30 +8,36 @@ ghost use Rattle.step_lang.specs.Judge.{answer, body_made, method_made};
 ghost use Rattle.step_lang.specs.Language.{IsBodyOf, BodyFault, IsMethodOf, MethodFault};
 
 use crate::judge::{body_of, method_of};
-use item_types::{Names, StepDecl};
+use item_types::{Memory, Names, StepDecl};
 use lang_grammar::LangFault;
 use lang_names::{check_body, check_method};
 use lang_reader::parse_text;
+use name_directory::{Directory, Register};
 use std::alloc::Global;
 use syntax_tree::{Body, Method};
 
-fn read_body(alloc: Global, text: &str, names: &Names, decl: &StepDecl) -> Result<Body, LangFault>
+fn read_body<'a>(
+    alloc: Global,
+    text: &str,
+    names: &'a Directory<'a>,
+    decl: &StepDecl,
+) -> Result<Body, LangFault>
     requires { length text.now < 2 ^ 32 }
     ensures { Told (answer body_made true names.now (body_right names.now decl.now) text.now) result }
 {
     match parse_text(alloc, text, names, true) {
         Ok(stmts) => {
-            let checked = check_body(alloc, names, decl, stmts.as_slice());
+            let checked = check_body(alloc, names.names(), decl, stmts.as_slice());
             body_of(stmts, checked)
         }
         Err(fault) => Err(fault),
     }
 }
 
-fn read_method(
+fn read_method<'a>(
     alloc: Global,
     text: &str,
-    names: &Names,
+    names: &'a Directory<'a>,
     recorder: u32,
     method: u32,
 ) -> Result<Method, LangFault>
@@ -40,11 +46,37 @@ fn read_method(
 {
     match parse_text(alloc, text, names, false) {
         Ok(stmts) => {
-            let checked = check_method(alloc, names, recorder, method, stmts.as_slice());
+            let checked = check_method(alloc, names.names(), recorder, method, stmts.as_slice());
             method_of(stmts, checked)
         }
         Err(fault) => Err(fault),
     }
+}
+
+/// The body of a step that a text is, as [`parse_body`] reads it, where what is declared is looked
+/// up in a directory that several texts share.
+///
+/// # Errors
+/// As [`parse_body`]'s.
+pub fn parse_body_in<'a>(
+    alloc: Global,
+    text: &str,
+    names: &'a Directory<'a>,
+    decl: &StepDecl,
+) -> Result<Body, LangFault>
+    requires { length text.now < 2 ^ 32 }
+    // What is read is the whole text, and its names are right.
+    ensures sentence { IfOk result (λ b. IsBodyOf names.now decl.now b text.now) }
+    // Such a text is read, unless memory runs out.
+    ensures only { (b : Body) → IsBodyOf names.now decl.now b text.now → Told (Ok b) result }
+    // What is refused is the first fault of the text.
+    ensures fault { (f : LangFault) → result ≡ Err f → f ≢ LangFault.Memory → BodyFault names.now decl.now text.now f }
+    // The first fault of a text is refused, unless memory runs out.
+    ensures first { (f : LangFault) → BodyFault names.now decl.now text.now f → Told (Err f) result }
+    // The answer as a function of the text, unless memory runs out.
+    ensures told { Told (answer body_made true names.now (body_right names.now decl.now) text.now) result }
+{
+    read_body(alloc, text, names, decl)
 }
 
 /// The body of a step that a text is.
@@ -72,7 +104,39 @@ pub fn parse_body(
     // The answer as a function of the text, unless memory runs out.
     ensures told { Told (answer body_made true names.now (body_right names.now decl.now) text.now) result }
 {
-    read_body(alloc, text, names, decl)
+    let register = match Register::new(alloc, names) {
+        Ok(register) => register,
+        Err(Memory) => return Err(LangFault::Memory),
+    };
+    let directory = Directory::new(&*names, &register);
+    parse_body_in(alloc, text, &directory, decl)
+}
+
+/// The method of a recorder that a text is, as [`parse_method`] reads it, where what is declared is
+/// looked up in a directory that several texts share.
+///
+/// # Errors
+/// As [`parse_body`]'s, for methods.
+pub fn parse_method_in<'a>(
+    alloc: Global,
+    text: &str,
+    names: &'a Directory<'a>,
+    recorder: u32,
+    method: u32,
+) -> Result<Method, LangFault>
+    requires { length text.now < 2 ^ 32 }
+    // What is read is the whole text, and its names are right.
+    ensures sentence { IfOk result (λ m. IsMethodOf names.now recorder method m text.now) }
+    // Such a text is read, unless memory runs out.
+    ensures only { (m : Method) → IsMethodOf names.now recorder method m text.now → Told (Ok m) result }
+    // What is refused is the first fault of the text.
+    ensures fault { (f : LangFault) → result ≡ Err f → f ≢ LangFault.Memory → MethodFault names.now recorder method text.now f }
+    // The first fault of a text is refused, unless memory runs out.
+    ensures first { (f : LangFault) → MethodFault names.now recorder method text.now f → Told (Err f) result }
+    // The answer as a function of the text, unless memory runs out.
+    ensures told { Told (answer method_made false names.now (method_right names.now recorder method) text.now) result }
+{
+    read_method(alloc, text, names, recorder, method)
 }
 
 /// The method of a recorder that a text is.
@@ -98,5 +162,10 @@ pub fn parse_method(
     // The answer as a function of the text, unless memory runs out.
     ensures told { Told (answer method_made false names.now (method_right names.now recorder method) text.now) result }
 {
-    read_method(alloc, text, names, recorder, method)
+    let register = match Register::new(alloc, names) {
+        Ok(register) => register,
+        Err(Memory) => return Err(LangFault::Memory),
+    };
+    let directory = Directory::new(&*names, &register);
+    parse_method_in(alloc, text, &directory, recorder, method)
 }

@@ -1,4 +1,5 @@
 use Rattle.std.proofs.Common.{true, List, Ok, Err, subst}
+use Rattle.item_types.specs.declared.decl.Names.{Names}
 use Rattle.syntax_tree.specs.declared.tree.Stmt.{Stmt}
 use Rattle.lang_names.specs.Stmts.{Rights}
 use Rattle.lang_names.specs.Names.{body_right}
@@ -10,7 +11,8 @@ pub returns-in-Ok : goal.returns-in-Ok
 returns-in-Ok c =
     read_ok body_made true c.args.names.now (body_right c.args.names.now c.args.decl.now) c.args.text.now c.in-Ok.stmts c.check_body-checked.result c.body_of.result
     (told_text true c.args.names.now c.args.text.now (Ok c.in-Ok.stmts) c.in-Ok.ensures.only c.in-Ok.ensures.first)
-    (subst (λ (s : List Stmt). Rights (body_right c.args.names.now c.args.decl.now s) c.check_body-checked.result) c.as_slice.ensures c.check_body-checked.ensures)
+    (subst (λ (s : List Stmt). Rights (body_right c.args.names.now c.args.decl.now s) c.check_body-checked.result) c.as_slice.ensures
+    (subst (λ (n : Names). Rights (body_right n c.args.decl.now c.as_slice.result.now) c.check_body-checked.result) c.names.ensures c.check_body-checked.ensures))
     c.body_of.ensures
 
 pub returns-in-Err : goal.returns-in-Err
