@@ -18,7 +18,7 @@ use item_types::{
 };
 use name_index::Index;
 use std::alloc::Global;
-use step_lang::Methods;
+use step_lang::{Directory, Methods, Register};
 
 /// The list, and copies of these at its end.
 fn with_copies<T: Same>(alloc: Global, more: &[T], mut found: Seq<T>) -> Result<Seq<T>, Memory>
@@ -191,7 +191,13 @@ fn texts_of<'n, 'i>(
     requires on { on.now ≡ keys_on draft.now.config }
     ensures { (result ≡ Err ProjectFault.Memory) ⊎ (result ≡ texts_of draft.now) }
 {
-    let reading = Reading { names, items, on };
+    let register = Register::new(alloc, names)?;
+    let directory = Directory::new(&*names, &register);
+    let reading = Reading {
+        names: &directory,
+        items: &*items,
+        on: &*on,
+    };
     third_walk(alloc, &reading, draft.extensions.as_slice())
 }
 

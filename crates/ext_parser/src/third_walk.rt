@@ -9,10 +9,10 @@ use crate::build::step_of;
 use crate::fault::ProjectFault;
 use crate::texts::Texts;
 use ext_draft::{DraftExtension, DraftMethod, DraftRecorder, DraftStep, inside_nth, path_of};
-use item_types::{Memory, Names, Seq, StepDecl, Text};
+use item_types::{Memory, Seq, StepDecl, Text};
 use name_index::Index;
 use std::alloc::Global;
-use step_lang::{Body, LangFault, Method, parse_body, parse_method};
+use step_lang::{Body, Directory, LangFault, Method, parse_body_in, parse_method_in};
 
 /// The fault of the text at the key `body` after that prefix.
 fn body_fault<T>(alloc: Global, prefix: &str, fault: LangFault) -> Result<T, ProjectFault>
@@ -26,9 +26,9 @@ fn body_fault<T>(alloc: Global, prefix: &str, fault: LangFault) -> Result<T, Pro
 }
 
 /// The method of a recorder at that prefix.
-fn method_at(
+fn method_at<'a>(
     alloc: Global,
-    names: &Names,
+    names: &'a Directory<'a>,
     prefix: &str,
     recorder: u32,
     method: u32,
@@ -37,7 +37,7 @@ fn method_at(
     requires { length text.now ≤ 65535 }
     ensures { (result ≡ Err ProjectFault.Memory) ⊎ (result ≡ method_at names.now prefix.now recorder method text.now) }
 {
-    match parse_method(alloc, text.as_str(), names, recorder, method) {
+    match parse_method_in(alloc, text.as_str(), names, recorder, method) {
         Ok(tree) => Ok(tree),
         Err(LangFault::Memory) => Err(ProjectFault::Memory),
         Err(fault) => body_fault(alloc, prefix, fault),
@@ -45,9 +45,9 @@ fn method_at(
 }
 
 /// The body of a step at that prefix.
-fn body_at(
+fn body_at<'a>(
     alloc: Global,
-    names: &Names,
+    names: &'a Directory<'a>,
     prefix: &str,
     decl: &StepDecl,
     text: &Text,
@@ -55,7 +55,7 @@ fn body_at(
     requires { length text.now ≤ 65535 }
     ensures { (result ≡ Err ProjectFault.Memory) ⊎ (result ≡ body_at names.now prefix.now decl.now text.now) }
 {
-    match parse_body(alloc, text.as_str(), names, decl) {
+    match parse_body_in(alloc, text.as_str(), names, decl) {
         Ok(tree) => Ok(tree),
         Err(LangFault::Memory) => Err(ProjectFault::Memory),
         Err(fault) => body_fault(alloc, prefix, fault),
@@ -63,9 +63,9 @@ fn body_at(
 }
 
 /// The methods of the recorder of that number.
-fn methods_at(
+fn methods_at<'a>(
     alloc: Global,
-    names: &Names,
+    names: &'a Directory<'a>,
     recorder: u32,
     path: &str,
     methods: &[DraftMethod],
@@ -93,9 +93,9 @@ fn methods_at(
 }
 
 /// The methods of recorder `index` of the list at `path`, which has that number in the file.
-fn list_at(
+fn list_at<'a>(
     alloc: Global,
-    names: &Names,
+    names: &'a Directory<'a>,
     number: u32,
     path: &str,
     index: usize,
@@ -117,9 +117,9 @@ fn list_at(
 
 /// The methods of the recorders of the list at `path`, after so many recorders in the file.
 #[tactic(auto, using(crate::proofs::Trees::one_more_list))]
-fn lists_at(
+fn lists_at<'a>(
     alloc: Global,
-    names: &Names,
+    names: &'a Directory<'a>,
     first: usize,
     path: &str,
     recorders: &[DraftRecorder],
@@ -143,7 +143,7 @@ fn lists_at(
 /// What the texts of a file may name.
 #[derive(Drop)]
 pub struct Reading<'n, 'i> {
-    pub names: &'n Names,
+    pub names: &'n Directory<'n>,
     /// The names of all items.
     pub items: &'n Index<'i>,
     /// The keys of `config` that are true.
