@@ -23,6 +23,3 @@ pub use project::Project;
 pub use project_fit::{fits, fitting_is_numbered};
 pub use read::read_project;
 pub use step_lang::{Body, LangFault, Method, Methods};
-
-#[cfg(test)]
-mod tests;
