@@ -1,77 +1,77 @@
--- A job may be shared by threads: its trees and its texts name no thread.
-use denote.Param.Send.{IsSend, IsSync, sendable, view_send, struct_send, recorded_send, shr_send, plain_send}
-use denote.Param.SendFields.{as_row_sync, as_row_send, declared_sync, declared_send}
+-- A job may be shared by threads, and a build state may go to another one: their trees, texts and
+-- numbers name no thread.
+use denote.Param.Send.{IsSend, IsSync, sendable, view_send}
+use denote.Param.SendFields.{as_row_sync, declared_sync}
 use denote.RattleType.{RattleType}
-use denote.Struct.Field.{row_field}
-use denote.Struct.Tuple.{Tuple, tuple_type}
-use Rattle.std.proofs.Common.{[], ◌∷◌}
-use Rattle.item_types.specs.contracts.value.Value as value
-use Rattle.item_types.proofs.value.Value.TheLaws.TheKnot.{sync-Value, send-Value}
-use Rattle.item_types.proofs.seq.Seq.TheSendSync as seq
-use Rattle.item_types.proofs.text.Text.TheSendSync as text
-use Rattle.item_types.proofs.boxed.Boxed.TheSendSync as boxed
-use Rattle.item_types.proofs.value.NodeId.TheSendSync as node
-use Rattle.item_types.proofs.value.Proxy.TheSendSync as proxy
-use Rattle.item_types.proofs.decl.Names.TheSendSync as names
-use Rattle.chain_builder.proofs.plan.Plan.TheSendSync as plan
-use Rattle.syntax_tree.specs.contracts.tree.Stmt as stmt
-use Rattle.syntax_tree.specs.contracts.tree.Expr as expr
-use Rattle.syntax_tree.specs.contracts.tree.Body as body
-use Rattle.syntax_tree.proofs.tree.Stmt.TheLaws.TheKnot.{sync-Stmt, send-Stmt}
-use Rattle.syntax_tree.proofs.tree.Expr.TheLaws.TheKnot.{sync-Expr, send-Expr}
-use Rattle.syntax_tree.proofs.tree.Link.TheSendSync as link
-use Rattle.build_history.specs.contracts.job.Job as job
-use Rattle.build_history.specs.contracts.event.Event as event
-use Rattle.build_history.specs.contracts.history.History as history
-use Rattle.recorder_proxy.specs.contracts.call.Call as call
-use Rattle.step_state.specs.contracts.outcome.Inputs as inputs
-use Rattle.step_state.proofs.outcome.Reason.TheSendSync as reason
-use Rattle.item_store.specs.contracts.store.Store as store
-use Rattle.item_store.specs.contracts.pile.Pile as pile
-use Rattle.dep_counter.proofs.counts.Counts.TheSendSync as counts
-use Rattle.step_set.proofs.set.StepSet.TheSendSync as steps
-use Rattle.step_slots.specs.contracts.puts.Twin as twin
-use Rattle.build_state.specs.contracts.state.BuildState as state
 use denote.Ref.{NamedLft}
 use denote.Struct.Declared.{row}
+use denote.Struct.Field.{row_field}
 use denote.Struct.Record.{declared}
-use Rattle.build_state.specs.contracts.state.BuildState.TheInside as inside
-use Rattle.step_slots.specs.contracts.puts.Puts as puts
-use Rattle.step_slots.specs.contracts.slot.Slot as slot
+use denote.Struct.Tuple.{Tuple, tuple_type}
+use Rattle.std.proofs.Common.{[], ◌∷◌}
+use Rattle.std.proofs.Crossing.{crosses}
+use Rattle.item_types.proofs.boxed.Boxed.TheSendSync as boxed
+use Rattle.item_types.proofs.decl.Names.TheSendSync as names
+use Rattle.item_types.proofs.seq.Seq.TheSendSync as seq
+use Rattle.item_types.proofs.text.Text.TheSendSync as text
+use Rattle.item_types.proofs.value.NodeId.TheSendSync as node
+use Rattle.item_types.proofs.value.Proxy.TheSendSync as proxy
+use Rattle.item_types.proofs.value.Value.TheLaws.TheKnot.{send-Value}
+use Rattle.item_types.specs.contracts.value.Value as value
+use Rattle.chain_builder.proofs.plan.Plan.TheSendSync as plan
+use Rattle.syntax_tree.proofs.tree.Expr.TheLaws.TheKnot.{sync-Expr}
+use Rattle.syntax_tree.proofs.tree.Link.TheSendSync as link
+use Rattle.syntax_tree.proofs.tree.Stmt.TheLaws.TheKnot.{sync-Stmt}
+use Rattle.syntax_tree.specs.contracts.tree.Body as body
+use Rattle.syntax_tree.specs.contracts.tree.Expr as expr
+use Rattle.syntax_tree.specs.contracts.tree.Stmt as stmt
+use Rattle.recorder_proxy.specs.contracts.call.Call as call
+use Rattle.step_state.proofs.outcome.Reason.TheSendSync as reason
+use Rattle.step_state.specs.contracts.outcome.Inputs as inputs
+use Rattle.item_store.specs.contracts.pile.Pile as pile
+use Rattle.item_store.specs.contracts.store.Store as store
+use Rattle.dep_counter.proofs.counts.Counts.TheSendSync as counts
+use Rattle.step_set.proofs.set.StepSet.TheSendSync as steps
+use Rattle.build_history.specs.contracts.event.Event as event
+use Rattle.build_history.specs.contracts.history.History as history
+use Rattle.build_history.specs.contracts.job.Job as job
 use Rattle.step_slots.proofs.mark.Mark.TheSendSync as mark
-use Rattle.std.proofs.vec.Vec.TheSendSync as vec
-use Rattle.std.proofs.alloc.Global.TheSendSync as global-send
-use Rattle.std.below.std_heap.proofs.GlobalAllocator.TheSendSync as heap
+use Rattle.step_slots.specs.contracts.puts.Puts as puts
+use Rattle.step_slots.specs.contracts.puts.Twin as twin
+use Rattle.step_slots.specs.contracts.slot.Slot as slot
+use Rattle.build_state.specs.contracts.state.BuildState as state
+use Rattle.build_state.specs.contracts.state.BuildState.TheInside as inside
 
+-- ---- a job is shared
 pair-sync : (A B : RattleType) → IsSync A → IsSync B → IsSync (Tuple (A ∷ B ∷ []))
 pair-sync A B a b = declared_sync (tuple_type (A ∷ B ∷ [])) (as_row_sync (row_field A) a, (as_row_sync (row_field B) b, tt))
 
-pair-send : (A B : RattleType) → IsSend A → IsSend B → IsSend (Tuple (A ∷ B ∷ []))
-pair-send A B a b = declared_send (tuple_type (A ∷ B ∷ [])) (as_row_send (row_field A) a, (as_row_send (row_field B) b, tt))
-
-value-sync : IsSync (value.the_field).row
-value-sync = sync-Value (search (sendable, seq.the_sync, text.the_sync, node.the_sync, node.the_field_sync, proxy.the_sync, proxy.the_field_sync, link.the_sync, link.the_field_sync, boxed.the_sync)) (search (sendable, seq.the_sync, text.the_sync, node.the_sync, node.the_field_sync, proxy.the_sync, proxy.the_field_sync, link.the_sync, link.the_field_sync, boxed.the_sync)) (search (sendable, seq.the_sync, text.the_sync, node.the_sync, node.the_field_sync, proxy.the_sync, proxy.the_field_sync, link.the_sync, link.the_field_sync, boxed.the_sync)) (search (sendable, seq.the_sync, text.the_sync, node.the_sync, node.the_field_sync, proxy.the_sync, proxy.the_field_sync, link.the_sync, link.the_field_sync, boxed.the_sync)) (search (sendable, seq.the_sync, text.the_sync, node.the_sync, node.the_field_sync, proxy.the_sync, proxy.the_field_sync, link.the_sync, link.the_field_sync, boxed.the_sync)) (search (sendable, seq.the_sync, text.the_sync, node.the_sync, node.the_field_sync, proxy.the_sync, proxy.the_field_sync, link.the_sync, link.the_field_sync, boxed.the_sync)) (search (sendable, seq.the_sync, text.the_sync, node.the_sync, node.the_field_sync, proxy.the_sync, proxy.the_field_sync, link.the_sync, link.the_field_sync, boxed.the_sync))
+ruleset leaves = (sendable, seq.the_sync, text.the_sync, link.the_field_sync, boxed.the_sync)
 
 expr-sync : IsSync (expr.the_field).row
-expr-sync = sync-Expr (search (sendable, seq.the_sync, text.the_sync, node.the_sync, node.the_field_sync, proxy.the_sync, proxy.the_field_sync, link.the_sync, link.the_field_sync, boxed.the_sync)) (search (sendable, seq.the_sync, text.the_sync, node.the_sync, node.the_field_sync, proxy.the_sync, proxy.the_field_sync, link.the_sync, link.the_field_sync, boxed.the_sync)) (search (sendable, seq.the_sync, text.the_sync, node.the_sync, node.the_field_sync, proxy.the_sync, proxy.the_field_sync, link.the_sync, link.the_field_sync, boxed.the_sync)) (search (sendable, seq.the_sync, text.the_sync, node.the_sync, node.the_field_sync, proxy.the_sync, proxy.the_field_sync, link.the_sync, link.the_field_sync, boxed.the_sync)) (λ h s. search (sendable, seq.the_sync, text.the_sync, pair-sync) depth 12 fits 4000) (search (sendable, seq.the_sync, text.the_sync, node.the_sync, node.the_field_sync, proxy.the_sync, proxy.the_field_sync, link.the_sync, link.the_field_sync, boxed.the_sync)) (λ h s. boxed.the_sync _ s) (search (sendable, seq.the_sync, text.the_sync, node.the_sync, node.the_field_sync, proxy.the_sync, proxy.the_field_sync, link.the_sync, link.the_field_sync, boxed.the_sync)) (search (sendable, seq.the_sync, text.the_sync, node.the_sync, node.the_field_sync, proxy.the_sync, proxy.the_field_sync, link.the_sync, link.the_field_sync, boxed.the_sync))
+expr-sync =
+    sync-Expr (search leaves) (search leaves) (search leaves) (search leaves)
+    (λ h s. search (sendable, seq.the_sync, text.the_sync, pair-sync) depth 12 fits 4000)
+    (search leaves) boxed.the_sync (search leaves) (search leaves)
 
 stmt-sync : IsSync (stmt.the_field).row
-stmt-sync = sync-Stmt (search sendable) text.the_sync expr-sync (search (sendable, seq.the_sync, expr-sync) depth 12 fits 4000) (λ h s. seq.the_sync _ s) (λ h s. search (sendable, seq.the_sync) depth 12 fits 4000)
-
-value-send : IsSend (value.the_field).row
-value-send = send-Value (search (sendable, seq.the_send, text.the_send, node.the_send, node.the_field_send, proxy.the_send, proxy.the_field_send, link.the_send, link.the_field_send, boxed.the_send)) (search (sendable, seq.the_send, text.the_send, node.the_send, node.the_field_send, proxy.the_send, proxy.the_field_send, link.the_send, link.the_field_send, boxed.the_send)) (search (sendable, seq.the_send, text.the_send, node.the_send, node.the_field_send, proxy.the_send, proxy.the_field_send, link.the_send, link.the_field_send, boxed.the_send)) (search (sendable, seq.the_send, text.the_send, node.the_send, node.the_field_send, proxy.the_send, proxy.the_field_send, link.the_send, link.the_field_send, boxed.the_send)) (search (sendable, seq.the_send, text.the_send, node.the_send, node.the_field_send, proxy.the_send, proxy.the_field_send, link.the_send, link.the_field_send, boxed.the_send)) (search (sendable, seq.the_send, text.the_send, node.the_send, node.the_field_send, proxy.the_send, proxy.the_field_send, link.the_send, link.the_field_send, boxed.the_send)) (search (sendable, seq.the_send, text.the_send, node.the_send, node.the_field_send, proxy.the_send, proxy.the_field_send, link.the_send, link.the_field_send, boxed.the_send))
-
-expr-send : IsSend (expr.the_field).row
-expr-send = send-Expr (search (sendable, seq.the_send, text.the_send, node.the_send, node.the_field_send, proxy.the_send, proxy.the_field_send, link.the_send, link.the_field_send, boxed.the_send)) (search (sendable, seq.the_send, text.the_send, node.the_send, node.the_field_send, proxy.the_send, proxy.the_field_send, link.the_send, link.the_field_send, boxed.the_send)) (search (sendable, seq.the_send, text.the_send, node.the_send, node.the_field_send, proxy.the_send, proxy.the_field_send, link.the_send, link.the_field_send, boxed.the_send)) (search (sendable, seq.the_send, text.the_send, node.the_send, node.the_field_send, proxy.the_send, proxy.the_field_send, link.the_send, link.the_field_send, boxed.the_send)) (λ h s. search (sendable, seq.the_send, text.the_send, pair-send) depth 12 fits 4000) (search (sendable, seq.the_send, text.the_send, node.the_send, node.the_field_send, proxy.the_send, proxy.the_field_send, link.the_send, link.the_field_send, boxed.the_send)) (λ h s. boxed.the_send _ s) (search (sendable, seq.the_send, text.the_send, node.the_send, node.the_field_send, proxy.the_send, proxy.the_field_send, link.the_send, link.the_field_send, boxed.the_send)) (search (sendable, seq.the_send, text.the_send, node.the_send, node.the_field_send, proxy.the_send, proxy.the_field_send, link.the_send, link.the_field_send, boxed.the_send))
-
-stmt-send : IsSend (stmt.the_field).row
-stmt-send = send-Stmt (search sendable) text.the_send expr-send (search (sendable, seq.the_send, expr-send) depth 12 fits 4000) (λ h s. seq.the_send _ s) (λ h s. search (sendable, seq.the_send) depth 12 fits 4000)
+stmt-sync =
+    sync-Stmt (search sendable) text.the_sync expr-sync
+    (search (sendable, seq.the_sync, expr-sync) depth 12 fits 4000)
+    seq.the_sync
+    (λ h s. search (sendable, seq.the_sync) depth 12 fits 4000)
 
 body-sync : IsSync (body.the_field).row
 body-sync = search (sendable, seq.the_sync, stmt-sync) depth 12 fits 4000
 
 pub job-sync : IsSync job.the_row
-job-sync = search (sendable, plan.the_sync, names.the_sync, names.the_field_sync, seq.the_sync, body-sync) depth 12 fits 4000
+job-sync = search (sendable, plan.the_sync, names.the_field_sync, seq.the_sync, body-sync) depth 12 fits 4000
+
+-- ---- what a state holds goes to another thread
+ruleset plain = (sendable, text.the_send, node.the_field_send, proxy.the_field_send)
+
+value-send : IsSend (value.the_field).row
+value-send = send-Value (search plain) (search plain) (search plain) (search plain) seq.the_send (search plain) (search plain)
 
 call-send : IsSend (call.the_field).row
 call-send = search (sendable, seq.the_send, value-send) depth 12 fits 4000
@@ -80,29 +80,31 @@ inputs-send : IsSend (inputs.the_field).row
 inputs-send = search (sendable, seq.the_send, value-send) depth 12 fits 4000
 
 event-send : IsSend (event.the_field).row
-event-send = search (sendable, seq.the_send, value-send, call-send, reason.the_field_send, reason.the_send) depth 12 fits 4000
+event-send = search (sendable, seq.the_send, value-send, call-send, reason.the_field_send) depth 12 fits 4000
 
 history-send : IsSend history.the_row
-history-send = search (sendable, vec.the_send, global-send.the_send, global-send.the_field_send, heap.the_frees, event-send) depth 12 fits 4000
-
+history-send = search (sendable, crosses, event-send) depth 12 fits 4000
 
 pile-send : IsSend pile.the_row
-pile-send = search (sendable, vec.the_send, global-send.the_send, global-send.the_field_send, heap.the_frees, value-send) depth 12 fits 4000
+pile-send = search (sendable, crosses, value-send) depth 12 fits 4000
 
 store-send : IsSend store.the_row
-store-send = search (sendable, vec.the_send, global-send.the_send, global-send.the_field_send, heap.the_frees, names.the_send, names.the_field_send, pile-send) depth 12 fits 4000
+store-send = search (sendable, crosses, names.the_field_send, pile-send) depth 12 fits 4000
 
 twin-send : IsSend (twin.the_field).row
 twin-send = search (sendable, value-send) depth 12 fits 4000
 
 puts-send : IsSend puts.the_row
-puts-send = search (sendable, vec.the_send, global-send.the_send, global-send.the_field_send, heap.the_frees, twin-send) depth 12 fits 4000
+puts-send = search (sendable, crosses, twin-send) depth 12 fits 4000
 
 slot-send : IsSend (slot.the_field).row
-slot-send = search (sendable, mark.the_field_send, inputs-send, puts-send, seq.the_send, call-send, reason.the_field_send, reason.the_send) depth 12 fits 4000
+slot-send = search (sendable, mark.the_field_send, inputs-send, puts-send, seq.the_send, call-send, reason.the_send) depth 12 fits 4000
 
-inside-send : (κ : NamedLft) → IsSend (row (declared (inside.struct κ) inside.the_propositions))
-inside-send κ = search (sendable, job-sync, history-send, store-send, counts.the_send, steps.the_send, vec.the_send, global-send.the_send, global-send.the_field_send, heap.the_frees, slot-send) depth 20 fits 8000
+abbrev fields : NamedLft → RattleType
+fields κ = row (declared (inside.struct κ) inside.the_propositions)
+
+fields-send : (κ : NamedLft) → IsSend (fields κ)
+fields-send κ = search (sendable, crosses, job-sync, history-send, store-send, counts.the_send, steps.the_send, slot-send) depth 20 fits 8000
 
 pub state-send : (κ : NamedLft) → IsSend (state.the_row κ)
-state-send κ = view_send (row (declared (inside.struct κ) inside.the_propositions)) _ _ _ _ (inside-send κ)
+state-send κ = view_send (fields κ) _ _ _ _ (fields-send κ)
