@@ -3,7 +3,7 @@ use Rattle.std.proofs.Common.{◌≡◌, ◌≢◌, refl, ap, sym, subst, ℕ, �
 use Rattle.std.proofs.lemmas.List.{length-take, take_all}
 use Rattle.aug_base.specs.Files.{Files}
 use Rattle.aug_base.specs.Shelves.{Holds}
-use Rattle.quarkus_cli.specs.declared.command.Command.TheVariants.{Dump}
+use Rattle.command_words.specs.declared.command.Command.TheVariants.{Dump}
 use Rattle.quarkus_cli.specs.declared.outcome.Outcome.{Outcome}
 use Rattle.quarkus_cli.specs.Outcomes.{CommandOutcome, OfClass, OfClassFile, OfDump, OfSize, Told, no_class}
 use Rattle.quarkus_cli.specs.Answers.{IsFinal}

@@ -1,9 +1,9 @@
 pub mod Writing
 pub mod Ends
-pub mod Plans
+pub mod Projects
+pub mod Kept
 pub mod Dumps
 pub mod Tops
-pub mod WordLaws
 pub mod Causes
 pub mod OneOutcome
 pub mod OneDump

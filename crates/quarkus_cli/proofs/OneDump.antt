@@ -7,7 +7,7 @@ use Rattle.class_grammar.specs.Layout.{IsBytes}
 use Rattle.class_pool.specs.declared.class.Class.{Class}
 use Rattle.class_pool.specs.declared.fault.ClassFault.{ClassFault}
 use Rattle.class_grammar.specs.FaultText.{fault_text}
-use Rattle.quarkus_cli.specs.declared.command.Command.TheVariants.{Dump}
+use Rattle.command_words.specs.declared.command.Command.TheVariants.{Dump}
 use Rattle.quarkus_cli.specs.declared.outcome.Outcome.{Outcome}
 use Rattle.quarkus_cli.specs.Outcomes.{CommandOutcome, OfClass, OfDump, OfSize, said, absent, no_class}
 

@@ -4,11 +4,11 @@ use Rattle.std.specs.Option.{ok_or}
 use Rattle.aug_base.specs.Files.{Files}
 use Rattle.aug_base.specs.Shelves.{Shelved}
 use Rattle.aug_base.specs.Sinks.{Taken}
-use Rattle.quarkus_cli.specs.declared.command.Command.{Command}
-use Rattle.quarkus_cli.specs.declared.command.Command.TheVariants.{Plan, Dump}
-use Rattle.quarkus_cli.specs.declared.command.WordsErr.{WordsErr}
-use Rattle.quarkus_cli.specs.declared.command.WordsErr.TheVariants.{Refused, Memory}
-use Rattle.quarkus_cli.specs.Words.{command_of}
+use Rattle.command_words.specs.declared.command.Command.{Command}
+use Rattle.command_words.specs.declared.command.Command.TheVariants.{Plan, Build, Dump}
+use Rattle.command_words.specs.declared.command.WordsErr.{WordsErr}
+use Rattle.command_words.specs.declared.command.WordsErr.TheVariants.{Refused, Memory}
+use Rattle.command_words.specs.Words.{command_of}
 use Rattle.quarkus_cli.specs.Outcomes.{FirstPart, OutcomeBy, FirstPartBy, WordsOutcome, WordsFirstPart, nothing, refused}
 use Rattle.quarkus_cli.specs.Answers.{Outside, outside, Answers, AnswersCommand, AnswersWords}
 use Rattle.quarkus_cli.specs.Ends.{Delivers}
@@ -34,6 +34,7 @@ dispatched said command before now status cause a =
 
 first_nothing : (command : Command) (m : Files) → FirstPart command m nothing
 first_nothing (Plan file) m = refl
+first_nothing (Build file out workers) m = refl
 first_nothing (Dump file) m = refl
 
 words_nothing : (o : Option Command) (files : Option Files) → FirstPartBy o files nothing

@@ -4,7 +4,7 @@ use Rattle.aug_base.specs.Causes.{Rose}
 use Rattle.aug_base.specs.Files.{Files, File, with_file, with_files, Begins}
 use Rattle.aug_base.specs.Shelves.{Shelved}
 use Rattle.aug_base.specs.Sinks.{Taken, Grows, GrowsBySome}
-use Rattle.quarkus_cli.specs.declared.command.Command.{Command}
+use Rattle.command_words.specs.declared.command.Command.{Command}
 use Rattle.quarkus_cli.specs.declared.outcome.Outcome.{Outcome}
 use Rattle.quarkus_cli.specs.Outcomes.{CommandOutcome, FirstPart, Told, WordsOutcome, WordsFirstPart}
 

@@ -16,10 +16,11 @@ use Rattle.ext_parser.specs.declared.fault.ProjectFault.{ProjectFault}
 use Rattle.ext_parser.specs.declared.project.Project.{Project}
 use Rattle.build_report.specs.PlanText.{IsPlanText}
 use Rattle.build_report.specs.ProjectFaultText.{project_fault_text}
-use Rattle.quarkus_cli.specs.declared.command.Command.{Command}
-use Rattle.quarkus_cli.specs.declared.command.Command.TheVariants.{Plan, Dump}
+use Rattle.command_words.specs.declared.command.Command.{Command}
+use Rattle.command_words.specs.declared.command.Command.TheVariants.{Plan, Build, Dump}
 use Rattle.quarkus_cli.specs.declared.outcome.Outcome.{Outcome}
-use Rattle.quarkus_cli.specs.Words.{command_of}
+use Rattle.command_words.specs.Words.{command_of}
+use Rattle.quarkus_cli.specs.Builds.{OfBuild}
 use Rattle.quarkus_cli.specs.Usage.{usage}
 
 -- a status and a text, and no file written
@@ -88,11 +89,13 @@ OfDump name (Some bytes) o = OfClassFile name bytes o
 -- the outcomes of a command over these files: one line for each command
 abbrev pub CommandOutcome : Command → Files → Outcome → Type 0
 CommandOutcome (Plan file) m o = OfFile (OfChain OfPlan) (m file) o
+CommandOutcome (Build file out workers) m o = OfFile (OfChain (OfBuild out workers)) (m file) o
 CommandOutcome (Dump file) m o = OfDump file (m file) o
 
 -- what is done where a read stops the command: one line for each command
 abbrev pub FirstPart : Command → Files → Outcome → Type 0
 FirstPart (Plan file) m o = o ≡ nothing
+FirstPart (Build file out workers) m o = o ≡ nothing
 FirstPart (Dump file) m o = o ≡ nothing
 
 -- a relation to the files, over what a shelf tells; of files that aren't told nothing is said

@@ -1,4 +1,4 @@
-ghost use Rattle.std.specs.Prelude.{◌≡◌, ◌↔◌, ◌⊎◌, ◌++◌, ◌∷◌, ◌<◌, ◌≤◌, ℕ, List, All, length, Option, Some, None, codes, true};
+ghost use Rattle.std.specs.Prelude.{◌≡◌, ◌↔◌, ◌⊎◌, ◌<◌, ◌≤◌, ℕ, List, length, Option, Some, None, codes};
 ghost use Rattle.aug_base.specs.Files.{Files};
 ghost use Rattle.class_dump.specs.Dump.{dump_text};
 ghost use Rattle.class_grammar.specs.Grammar.{Spells, IsStuck};
@@ -6,34 +6,62 @@ ghost use Rattle.class_grammar.specs.Layout.{IsBytes};
 ghost use Rattle.class_pool.specs.declared.class.Class.{Class};
 ghost use Rattle.class_pool.specs.declared.fault.ClassFault.{ClassFault};
 ghost use Rattle.class_grammar.specs.FaultText as class_fault;
+ghost use Rattle.build_history.specs.declared.event.Event.{Event};
+ghost use Rattle.build_history.specs.Kinds.{IsComplete, IsFailed};
 ghost use Rattle.ext_parser.specs.declared.project.Project.{Project};
-ghost use Rattle.quarkus_cli.specs.declared.command.Command.{Command};
+ghost use Rattle.project_job.specs.JobOf.{job_of};
+ghost use Rattle.command_words.specs.declared.command.Command.{Command};
 ghost use Rattle.quarkus_cli.specs.declared.outcome.Outcome.{Outcome};
-ghost use Rattle.quarkus_cli.specs.Words.{operands, is_option, command_of};
+ghost use Rattle.command_words.specs.Words.{command_of};
 ghost use Rattle.quarkus_cli.specs.Outcomes.{CommandOutcome, WordsOutcome, IsAcceptedProject, said, absent, no_class};
-ghost use Rattle.quarkus_cli.specs.Answers.{Outside, Quiet, AnswersWords};
-ghost use Rattle.quarkus_cli.specs.Causes.{HoldsProject, HoldsNoProject, IsPlainWord, CanCount};
+ghost use Rattle.quarkus_cli.specs.Answers.{Outside, Quiet, AnswersCommand, AnswersWords};
+ghost use Rattle.quarkus_cli.specs.Causes.{HoldsProject, HoldsNoProject, TellsBuild, CanCount};
 
 use build_report::a_plan_has_one_text;
 use chain_builder::{fault_is_the_only_one, no_fault_is_accepted};
 use class_grammar::one_reading;
+use project_job::steps_are_named;
+use run_laws::{a_text_is_of_one_run, one_least_first};
 
-/// A law: among the words after the command the plain ones are files, after a word `--` each is
-/// one, and another word that begins with `-` leaves no form. It does nothing.
-pub fn operands_are_the_files()
-    ensures plain { (words : List (List ℕ)) → All IsPlainWord words → operands words ≡ Some words }
-    ensures ended { (words after : List (List ℕ)) → All IsPlainWord words → operands (words ++ codes "--" ∷ after) ≡ Some (words ++ after) }
-    ensures refused { (words after : List (List ℕ)) (word : List ℕ) → All IsPlainWord words → is_option word ≡ true → (word ≡ codes "--" → ⊥) → operands (words ++ word ∷ after) ≡ None }
-{}
-
-/// A law: each status of an outcome of `plan` stands for its cause, and comes exactly where that
-/// holds. It does nothing.
+/// A law: each status of an outcome of `plan` and of `build` stands for its cause, and comes
+/// exactly where that holds. It does nothing.
 pub fn a_status_tells_its_cause()
     ensures refused { (words : List (List ℕ)) (files : Option Files) (o : Outcome) → WordsOutcome words files o → (o.status ≡ 1) ↔ (command_of words ≡ None) }
     ensures absent { (file : List ℕ) (m : Files) (o : Outcome) → CommandOutcome (Command.Plan file) m o → (o.status ≡ 6) ↔ (m file ≡ None) }
     ensures no_project { (file : List ℕ) (m : Files) (o : Outcome) → CommandOutcome (Command.Plan file) m o → (o.status ≡ 2) ↔ HoldsNoProject (m file) }
     ensures no_chain { (file : List ℕ) (m : Files) (o : Outcome) → CommandOutcome (Command.Plan file) m o → (o.status ≡ 3) ↔ ((p : Project) × HoldsProject (m file) p × (IsAcceptedProject p → ⊥)) }
     ensures done { (file : List ℕ) (m : Files) (o : Outcome) → CommandOutcome (Command.Plan file) m o → (o.status ≡ 0) ↔ ((p : Project) × HoldsProject (m file) p × IsAcceptedProject p) }
+    ensures build_absent { (file out : List ℕ) (workers : ℕ) (m : Files) (o : Outcome) → CommandOutcome (Command.Build file out workers) m o → (o.status ≡ 6) ↔ (m file ≡ None) }
+    ensures build_no_project { (file out : List ℕ) (workers : ℕ) (m : Files) (o : Outcome) → CommandOutcome (Command.Build file out workers) m o → (o.status ≡ 2) ↔ HoldsNoProject (m file) }
+    ensures build_no_chain { (file out : List ℕ) (workers : ℕ) (m : Files) (o : Outcome) → CommandOutcome (Command.Build file out workers) m o → (o.status ≡ 3) ↔ ((p : Project) × HoldsProject (m file) p × (IsAcceptedProject p → ⊥)) }
+    ensures step_failed { (file out : List ℕ) (workers : ℕ) (m : Files) (o : Outcome) → CommandOutcome (Command.Build file out workers) m o → (o.status ≡ 4) ↔ ((p : Project) × (h : List Event) × TellsBuild (m file) out workers o p h × IsFailed h) }
+    ensures built { (file out : List ℕ) (workers : ℕ) (m : Files) (o : Outcome) → CommandOutcome (Command.Build file out workers) m o → (o.status ≡ 0) ↔ ((p : Project) × (h : List Event) × TellsBuild (m file) out workers o p h × IsComplete (job_of p) h × (IsFailed h → ⊥)) }
+{
+    no_fault_is_accepted();
+}
+
+/// A law: an outcome of `build` tells its project and its history, so what is written and printed
+/// is of one run. It does nothing.
+pub fn a_build_tells_its_history()
+    ensures { (file : Option (List ℕ)) (out : List ℕ) (workers others : ℕ) (o : Outcome) (p q : Project) (h k : List Event) → TellsBuild file out workers o p h → TellsBuild file out others o q k → (p ≡ q) × (h ≡ k) }
+{
+    steps_are_named();
+    a_text_is_of_one_run();
+}
+
+/// A law: over given files `build` by one worker has at most one outcome. It does nothing.
+pub fn one_worker_has_one_outcome()
+    ensures { (file out : List ℕ) (m : Files) (o other : Outcome) → CommandOutcome (Command.Build file out 1) m o → CommandOutcome (Command.Build file out 1) m other → o ≡ other }
+{
+    no_fault_is_accepted();
+    fault_is_the_only_one();
+    one_least_first();
+}
+
+/// A law: where nothing outside failed and the file holds a project whose chain is accepted,
+/// `build` answers 0, 4 or want of memory. It does nothing.
+pub fn an_accepted_project_is_built()
+    ensures { (file out : List ℕ) (workers : ℕ) (before now : Outside) (status : ℕ) (m : Files) (p : Project) → AnswersCommand (Command.Build file out workers) before now status → CanCount before → Quiet before now → before.shelf.files ≡ Some m → HoldsProject (m file) p → IsAcceptedProject p → (status ≡ 0) ⊎ ((status ≡ 4) ⊎ (status ≡ 8)) }
 {
     no_fault_is_accepted();
 }

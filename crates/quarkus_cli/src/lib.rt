@@ -6,24 +6,25 @@
 #![tactic(auto)]
 
 mod answer;
-mod command;
+mod build;
 mod delivery;
 mod dump;
 mod laws;
 mod outcome;
 mod plan;
+mod prepare;
 mod reading;
 mod refusals;
 mod status;
-mod words;
 
 pub use answer::top;
-pub use command::{Command, WordsErr};
+pub use build::{build_one, build_together};
+pub use command_words::{Command, WordsErr, read_words};
 pub use dump::dump_call;
 pub use laws::{
-    a_class_file_has_one_dump, a_status_tells_its_cause, an_outcome_is_answered,
-    operands_are_the_files, plan_has_one_outcome,
+    a_build_tells_its_history, a_class_file_has_one_dump, a_status_tells_its_cause,
+    an_accepted_project_is_built, an_outcome_is_answered, one_worker_has_one_outcome,
+    plan_has_one_outcome,
 };
 pub use outcome::Outcome;
 pub use plan::plan_call;
-pub use words::read_words;

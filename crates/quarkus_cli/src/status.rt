@@ -12,6 +12,9 @@ pub const NO_PROJECT: u8 = 2;
 /// The chain has a fault.
 pub const NO_CHAIN: u8 = 3;
 
+/// A step failed.
+pub const STEP_FAILED: u8 = 4;
+
 /// A file that is read isn't there, or can't be read.
 pub const UNREADABLE: u8 = 6;
 

@@ -1,5 +1,5 @@
 use Rattle.std.proofs.Common.{refl, subst}
-use Rattle.quarkus_cli.specs.declared.command.Command.TheVariants.{Dump}
+use Rattle.command_words.specs.declared.command.Command.TheVariants.{Dump}
 use Rattle.quarkus_cli.specs.Outcomes.{CommandOutcome, FirstPart, OfClassFile}
 use Rattle.quarkus_cli.proofs.Ends.{told_absent, told_nothing, stopped_read, read_memory, read_delivered}
 use Rattle.quarkus_cli.proofs.Dumps.{dump_allows}

@@ -1,9 +1,9 @@
 use Rattle.std.proofs.Common.{refl, subst}
-use Rattle.quarkus_cli.specs.declared.command.Command.TheVariants.{Plan}
+use Rattle.command_words.specs.declared.command.Command.TheVariants.{Plan}
 use Rattle.ext_parser.specs.ProjectOfTheBytes.{project}
 use Rattle.quarkus_cli.specs.Outcomes.{CommandOutcome, FirstPart, OfRead, OfChain, OfPlan}
 use Rattle.quarkus_cli.proofs.Ends.{told_absent, told_nothing, stopped_read, read_memory, read_delivered}
-use Rattle.quarkus_cli.proofs.Plans.{plan_allows}
+use Rattle.quarkus_cli.proofs.Projects.{plan_ends, project_allows}
 use Rattle.quarkus_cli.proofs.plan.plan_call.Goals as goal
 
 pub returns-in-Err : goal.returns-in-Err
@@ -18,7 +18,7 @@ returns-in-Ok-plan_outcome g c =
     let o = c.in-Ok-plan_outcome.outcome in
     record {
       answers = read_delivered _ _ c.args.file.now c.in-Ok.bytes _ o _ _ _ _ _ c.deliver.result c.in-Ok.ensures.ok
-          (plan_allows c.args.file.now c.in-Ok.bytes 1048577 _ o c.project_of_cut_bytes.ensures
+          (project_allows OfPlan plan_ends c.args.file.now c.in-Ok.bytes 1048577 _ o c.project_of_cut_bytes.ensures
           (subst (λ bytes. OfRead (OfChain OfPlan) (project bytes) o) c.as_slice.ensures c.in-Ok-plan_outcome.ensures) c.in-Ok.ensures.ok.bytes)
           c.deliver.ensures;
     }
