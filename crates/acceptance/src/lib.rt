@@ -4,6 +4,8 @@
 #![tactic(auto)]
 
 #[cfg(test)]
+mod builds;
+#[cfg(test)]
 mod dumps;
 #[cfg(test)]
 mod faults;

@@ -32,7 +32,7 @@ pub fn numbers(alloc: Global, numbers: &[u64]) -> Result<Seq<u64>, Memory> {
 }
 
 /// Runs the program over a shelf that holds these bytes as `app.toml`.
-pub fn run<R: Threads + Wait + AllocGlobal>(
+pub fn run<R: Threads + Wait + Sync + AllocGlobal>(
     rt: &R,
     file: &[u8],
     words: &[&str],
@@ -54,7 +54,7 @@ pub fn run<R: Threads + Wait + AllocGlobal>(
 }
 
 /// Runs the words over a shelf and a sink that never fail.
-pub fn run_well<R: Threads + Wait + AllocGlobal>(
+pub fn run_well<R: Threads + Wait + Sync + AllocGlobal>(
     rt: &R,
     file: &[u8],
     words: &[&str],
