@@ -7,3 +7,4 @@ pub mod Tops
 pub mod Causes
 pub mod OneOutcome
 pub mod OneDump
+pub mod Printed

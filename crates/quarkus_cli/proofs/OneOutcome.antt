@@ -21,6 +21,8 @@ use Rattle.project_job.specs.JobOf.{job_of}
 use Rattle.quarkus_cli.specs.Builds.{OfBuild, built}
 use Rattle.quarkus_cli.specs.Causes.{TellsBuild}
 use Rattle.quarkus_cli.specs.Outcomes.{said, no_chain, OfRead, OfFile, OfChain, OfPlan}
+use Rattle.build_report.specs.BuildText.{build_text}
+use Rattle.quarkus_cli.proofs.Printed.{printed}
 use Rattle.quarkus_cli.proofs.Causes.{NoFaultIsAccepted, one_project}
 
 -- a chain has at most one fault
@@ -79,6 +81,10 @@ StepsAreNamed = (bytes : List ℕ) → IfOk (project bytes) (λ p. IsNamed (job_
 named_by : (r : Result Project ProjectFault) (p : Project) → IfOk r (λ p. IsNamed (job_of p)) → r ≡ Ok p → IsNamed (job_of p)
 named_by (Ok q) p named is = let e : q ≡ p = cc in subst (λ (q : Project). IsNamed (job_of q)) e named
 named_by (Err fault) p named is = absurd (cc)
+
+pub printed_history : StepsAreNamed → (bytes : List ℕ) (p : Project) (h k : List Event) → project bytes ≡ Ok p → IsFinished (job_of p) h → IsFinished (job_of p) k
+    → build_text p.app (job_of p) h ≡ build_text p.app (job_of p) k → h ≡ k
+printed_history names bytes p h k is one two same = printed (job_of p) (named_by (project bytes) p (names bytes) is) p.app h k one.run two.run same
 
 -- the bytes of the first file
 abbrev file_bytes : List File → List ℕ

@@ -1,4 +1,4 @@
-ghost use Rattle.std.specs.Prelude.{◌≡◌, ◌↔◌, ◌⊎◌, ◌<◌, ◌≤◌, ℕ, List, length, Option, Some, None, codes};
+ghost use Rattle.std.specs.Prelude.{◌≡◌, ◌↔◌, ◌⊎◌, ◌<◌, ◌≤◌, ℕ, List, length, Option, Some, None, Ok, codes};
 ghost use Rattle.aug_base.specs.Files.{Files};
 ghost use Rattle.class_dump.specs.Dump.{dump_text};
 ghost use Rattle.class_grammar.specs.Grammar.{Spells, IsStuck};
@@ -7,7 +7,9 @@ ghost use Rattle.class_pool.specs.declared.class.Class.{Class};
 ghost use Rattle.class_pool.specs.declared.fault.ClassFault.{ClassFault};
 ghost use Rattle.class_grammar.specs.FaultText as class_fault;
 ghost use Rattle.build_history.specs.declared.event.Event.{Event};
-ghost use Rattle.build_history.specs.Kinds.{IsComplete, IsFailed};
+ghost use Rattle.build_history.specs.Kinds.{IsComplete, IsFailed, IsFinished};
+ghost use Rattle.build_report.specs.BuildText.{build_text};
+ghost use Rattle.ext_parser.specs.ProjectOfTheBytes.{project};
 ghost use Rattle.ext_parser.specs.declared.project.Project.{Project};
 ghost use Rattle.project_job.specs.JobOf.{job_of};
 ghost use Rattle.command_words.specs.declared.command.Command.{Command};
@@ -41,9 +43,10 @@ pub fn a_status_tells_its_cause()
 }
 
 /// A law: an outcome of `build` tells its project and its history, so what is written and printed
-/// is of one run. It does nothing.
+/// is of one run; and a printed text alone tells the history, over a project. It does nothing.
 pub fn a_build_tells_its_history()
-    ensures { (file : Option (List ℕ)) (out : List ℕ) (workers others : ℕ) (o : Outcome) (p q : Project) (h k : List Event) → TellsBuild file out workers o p h → TellsBuild file out others o q k → (p ≡ q) × (h ≡ k) }
+    ensures printed { (bytes : List ℕ) (p : Project) (h k : List Event) → project bytes ≡ Ok p → IsFinished (job_of p) h → IsFinished (job_of p) k → build_text p.app (job_of p) h ≡ build_text p.app (job_of p) k → h ≡ k }
+    ensures outcome { (file : Option (List ℕ)) (out : List ℕ) (workers others : ℕ) (o : Outcome) (p q : Project) (h k : List Event) → TellsBuild file out workers o p h → TellsBuild file out others o q k → (p ≡ q) × (h ≡ k) }
 {
     steps_are_named();
     a_text_is_of_one_run();
