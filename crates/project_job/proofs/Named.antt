@@ -21,7 +21,8 @@ use Rattle.ext_parser.specs.declared.known.Known.{Known}
 use Rattle.ext_parser.specs.declared.project.Project.{Project}
 use Rattle.ext_parser.specs.declared.second_walk.Before.{Before}
 use Rattle.ext_parser.specs.declared.texts.Texts.{Texts}
-use Rattle.ext_parser.proofs.Apart.{and-parts, and-true, fresh-not, row-apart}
+use Rattle.ext_parser.proofs.Apart.{fresh-not, row-apart}
+use Rattle.project_fit.proofs.Apart.{and-parts, and-true}
 use Rattle.ext_parser.proofs.Numbers.{both, extension-right, kept-checked}
 use Rattle.build_history.specs.Jobs.{no_decl}
 use Rattle.run_laws.specs.Named.{IsNamed, is_plain}

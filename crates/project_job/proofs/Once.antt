@@ -4,9 +4,9 @@ use Rattle.std.specs.List.{position_from, slice_index_or}
 use Rattle.std.specs.Prelude.{is_some}
 use Rattle.std.specs.Str.{bytes_eq}
 use Rattle.std.proofs.lemmas.Slice.Eq.{bytes_eq-Decides}
-use Rattle.ext_parser.specs.Fits.{none_twice}
-use Rattle.ext_parser.specs.Place.{has}
-use Rattle.ext_parser.proofs.Apart.{and-parts}
+use Rattle.project_fit.specs.Fits.{none_twice}
+use Rattle.name_index.specs.Place.{has}
+use Rattle.project_fit.proofs.Apart.{and-parts}
 
 -- the text isn't in the list
 abbrev pub Lacks : List (List ℕ) → List ℕ → Type 0
