@@ -7,14 +7,24 @@ use crate::quote::push_quoted;
 use crate::step::Phase;
 use crate::text::Text;
 use crate::value::{NodeId, Proxy, Value};
+use itoa::{Buffer, Integer};
+
+/// Appends the number's decimal digits, behind a sign where it is negative.
+fn push_number<I: Integer>(n: I, out: &mut String) -> Result<(), Memory>
+    ensures { OnOk result (string_bytes out.new ≡ string_bytes out.old ++ I.text n) }
+{
+    let mut buffer = Buffer::new();
+    out.push_str(buffer.format(n))?;
+    Ok(())
+}
 
 fn push_node(id: NodeId, out: &mut String) -> Result<(), Memory>
     ensures { OnOk result (string_bytes out.new ≡ string_bytes out.old ++ node_text id) }
 {
-    let step = id.step;
-    let k = id.k;
-    write!(out, "#{step}.{k}")?;
-    Ok(())
+    out.push_str("#")?;
+    push_number(id.step, out)?;
+    out.push_str(".")?;
+    push_number(id.k, out)
 }
 
 fn phase_word(phase: Phase) -> &'static str
@@ -47,7 +57,7 @@ pub fn push_value(value: &Value, names: &Names, out: &mut String) -> Result<(), 
     match value {
         Value::Null => out.push_str("null")?,
         Value::Bool(b) => write!(out, "{b}")?,
-        Value::Long(n) => write!(out, "{n}")?,
+        Value::Long(n) => push_number(*n, out)?,
         Value::Str(text) => push_quoted(text.as_str(), out)?,
         Value::List(id, parts) => {
             out.push_str("[")?;

@@ -67,7 +67,7 @@ fn same_items<T: Same>(xs: &[T], ys: &[T]) -> bool
 fn copy_items<T: Same>(alloc: Global, items: &[T]) -> Result<Seq<T>, Memory>
     ensures { IfOk result (λ copies. copies ≡ items.now) }
 {
-    let mut copies = Seq::new(alloc);
+    let mut copies = Seq::with_capacity(alloc, items.len())?;
     for item in items {
         copies.push(item.try_copy(alloc)?)?;
     }

@@ -1,4 +1,4 @@
-ghost use Rattle.std.specs.Prelude.{◌≡◌, [], ◌∷◌, ◌++◌, length, OnOk, OnErr};
+ghost use Rattle.std.specs.Prelude.{◌≡◌, [], ◌∷◌, ◌++◌, length, IfOk, OnOk, OnErr};
 
 use crate::memory::Memory;
 use std::alloc::Global;
@@ -33,6 +33,18 @@ impl<T> Seq<T> {
         Seq {
             items: Vec::new(alloc),
         }
+    }
+
+    /// The empty list, with room for that many elements.
+    ///
+    /// # Errors
+    /// `Memory` for want of memory.
+    pub fn with_capacity(alloc: Global, capacity: usize) -> Result<Seq<T>, Memory>
+        ensures { IfOk result (λ s. s ≡ []) }
+    {
+        Ok(Seq {
+            items: Vec::with_capacity(alloc, capacity)?,
+        })
     }
 
     /// The elements in order. It takes no memory.

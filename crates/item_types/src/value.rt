@@ -212,7 +212,7 @@ pub fn same_values(xs: &[Value], ys: &[Value]) -> bool
 pub fn copy_values(alloc: Global, values: &[Value]) -> Result<Seq<Value>, Memory>
     ensures { IfOk result (λ s. s ≡ values.now) }
 {
-    let mut copies = Seq::new(alloc);
+    let mut copies = Seq::with_capacity(alloc, values.len())?;
     for value in values {
         copies.push(value.try_copy(alloc)?)?;
     }
