@@ -1,5 +1,5 @@
 -- The text of a value, as a history shows it. This project's own.
-use Rattle.std.specs.Prelude.{ℕ, Bool, true, false, List, [], ◌∷◌, ◌++◌, slice_get, codes}
+use Rattle.std.specs.Prelude.{ℕ, ◌==◌, cond, Bool, true, false, List, [], ◌∷◌, ◌++◌, slice_get, codes}
 use Rattle.std.specs.Fmt.{decimal, signed_decimal}
 use Rattle.item_types.specs.Quoted.{quoted}
 use Rattle.item_types.specs.Named.{fields_of, bean_name}
@@ -23,6 +23,10 @@ abbrev pub named : List (List ℕ) → List (List ℕ) → List (List ℕ)
 named [] texts = []
 named (field ∷ fields) [] = []
 named (field ∷ fields) (t ∷ ts) = (field ++ codes ": " ++ t) ∷ named fields ts
+
+-- what stands before the text at that place
+abbrev pub separator : ℕ → List ℕ
+separator place = cond (place == 0) [] (codes ", ")
 
 abbrev pub bool_text : Bool → List ℕ
 bool_text true = codes "true"

@@ -1,5 +1,5 @@
 ghost use Rattle.std.specs.Prelude.{◌≡◌, ◌++◌, [], map, codes, string_bytes, OnOk};
-ghost use Rattle.item_types.specs.Printed.{joined, named, phase_text, node_text, proxy_text, value_text};
+ghost use Rattle.item_types.specs.Printed.{joined, named, separator, phase_text, node_text, proxy_text, value_text};
 
 use crate::decl::Names;
 use crate::memory::Memory;
@@ -21,9 +21,9 @@ fn push_number<I: Integer>(n: I, out: &mut String) -> Result<(), Memory>
 fn push_node(id: NodeId, out: &mut String) -> Result<(), Memory>
     ensures { OnOk result (string_bytes out.new ≡ string_bytes out.old ++ node_text id) }
 {
-    out.push_str("#")?;
+    out.push('#')?;
     push_number(id.step, out)?;
-    out.push_str(".")?;
+    out.push('.')?;
     push_number(id.k, out)
 }
 
@@ -60,18 +60,18 @@ pub fn push_value(value: &Value, names: &Names, out: &mut String) -> Result<(), 
         Value::Long(n) => push_number(*n, out)?,
         Value::Str(text) => push_quoted(text.as_str(), out)?,
         Value::List(id, parts) => {
-            out.push_str("[")?;
+            out.push('[')?;
             push_node(*id, out)?;
-            out.push_str(":")?;
+            out.push(':')?;
             push_values(parts.as_slice(), names, " ", out)?;
-            out.push_str("]")?;
+            out.push(']')?;
         }
         Value::Bean(id, bean, parts) => {
             out.push_str(names.bean_name(*bean))?;
             push_node(*id, out)?;
-            out.push_str("{")?;
+            out.push('{')?;
             push_fields(names.fields_of(*bean), parts.as_slice(), names, out)?;
-            out.push_str("}")?;
+            out.push('}')?;
         }
         Value::Returned(proxy) => push_proxy(*proxy, out)?,
     }
@@ -109,13 +109,31 @@ fn push_fields(
 ) -> Result<(), Memory>
     ensures { OnOk result (string_bytes out.new ≡ string_bytes out.old ++ joined [] (codes ", ") (named fields.now (map (value_text names.now) values.now))) }
 {
-    let mut mark = "";
     for i in 0..fields.len().min(values.len()) {
-        out.push_str(mark)?;
-        out.push_str(fields[i].as_str())?;
-        out.push_str(": ")?;
+        push_separator(i, out)?;
+        push_label(fields[i].as_str(), out)?;
         push_value(&values[i], names, out)?;
-        mark = ", ";
     }
+    Ok(())
+}
+
+/// Appends what stands before the field at that place.
+fn push_separator(place: usize, out: &mut String) -> Result<(), Memory>
+    ensures { OnOk result (string_bytes out.new ≡ string_bytes out.old ++ separator place) }
+{
+    if place > 0 {
+        out.push(',')?;
+        out.push(' ')?;
+    }
+    Ok(())
+}
+
+/// Appends the field's name and what stands behind it.
+fn push_label(name: &str, out: &mut String) -> Result<(), Memory>
+    ensures { OnOk result (string_bytes out.new ≡ string_bytes out.old ++ (name.now ++ codes ": ")) }
+{
+    out.push_str(name)?;
+    out.push(':')?;
+    out.push(' ')?;
     Ok(())
 }
