@@ -1,13 +1,11 @@
 -- Where a name stands among names, when one more name comes.
 use denote.Ref.{Bor}
 use Rattle.std.proofs.Common.{◌≤◌, ◌≡◌, ◌+◌, ◌<◌, ◌∙◌, ℕ, suc, ap, sym, refl, arith, inl, inr, Bool, true, false, cond, List, [], ◌∷◌, ◌++◌, length, map, Option, Some, None, IfSome, add-zero}
-use Rattle.std.specs.BTreeMap.{BTreeMap, UpdatesBy}
-use Rattle.std.specs.Cmp.Lexicographic.{slice_cmp}
+use Rattle.std.specs.HashMap.{HashMap, UpdatesBy}
 use Rattle.std.specs.List.{position_from}
 use Rattle.std.specs.Option.{option_or, option_copied}
-use Rattle.std.specs.Ordering.{nat_cmp}
 use Rattle.std.specs.Str.{bytes_eq}
-use Rattle.std.proofs.lemmas.Map.Text.{btree_map_updates_str}
+use Rattle.std.proofs.lemmas.Map.Text.{hash_map_updates_str}
 use Rattle.std.proofs.lemmas.Slice.Eq.{bytes_eq-Decides}
 use Rattle.name_index.specs.Place.{place}
 use Rattle.name_index.specs.Indexed.{texts, place_in, IsIndexed, noted_at, unless, left_behind}
@@ -65,14 +63,14 @@ unless-other n m below =
       | inr f ↦ ap (λ b. cond b None (Some m)) f.0
     ]
 
-abbrev pub Sets : List ℕ → BTreeMap (Bor (List ℕ)) ℕ → BTreeMap (Bor (List ℕ)) ℕ → Option ℕ → Type 0
-Sets name old new value = UpdatesBy (λ (x y : Bor (List ℕ)). slice_cmp nat_cmp x.now y.now) (λ (k : Bor (List ℕ)). slice_cmp nat_cmp name k.now) old new value
+abbrev pub Sets : {S : Type 0} → List ℕ → HashMap (Bor (List ℕ)) ℕ S → HashMap (Bor (List ℕ)) ℕ S → Option ℕ → Type 0
+Sets name old new value = UpdatesBy (λ (x y : Bor (List ℕ)). bytes_eq x.now y.now) (λ (k : Bor (List ℕ)). bytes_eq name k.now) old new value
 
-pub noted : (old new : BTreeMap (Bor (List ℕ)) ℕ) (name : List ℕ) (found : Option (Bor ℕ)) (n : ℕ) → option_copied found ≡ place_in old name → is_some found ≡ false → Sets name old new (Some n)
+pub noted : {S : Type 0} (old new : HashMap (Bor (List ℕ)) ℕ S) (name : List ℕ) (found : Option (Bor ℕ)) (n : ℕ) → option_copied found ≡ place_in old name → is_some found ≡ false → Sets name old new (Some n)
     → (text : List ℕ) → place_in new text ≡ noted_at name n (place_in old text) text
 noted old new name found n looked is sets text =
     let absent : place_in old name ≡ None = sym looked ∙ none-of found is in
-    btree_map_updates_str name old new (Some n) sets text
+    hash_map_updates_str name old new (Some n) sets text
     ∙ noted-by (bytes_eq name text) (bytes_eq text name) (place_in old text) n (bytes_eq-sym _ _ name text refl refl) (λ same. ap (place_in old) ((bytes_eq-Decides text name).0 same) ∙ absent)
 
 taken-by : (b c : Bool) (found : Option ℕ) (n : ℕ) → b ≡ c → (c ≡ true → found ≡ Some n) → cond b None found ≡ cond c (unless n found) found
@@ -81,10 +79,10 @@ taken-by false false found n same at = refl
 taken-by true false found n same at = cc
 taken-by false true found n same at = cc
 
-pub taken : (old new : BTreeMap (Bor (List ℕ)) ℕ) (name : List ℕ) (n : ℕ) → place_in old name ≡ Some n → Sets name old new None
+pub taken : {S : Type 0} (old new : HashMap (Bor (List ℕ)) ℕ S) (name : List ℕ) (n : ℕ) → place_in old name ≡ Some n → Sets name old new None
     → (text : List ℕ) → place_in new text ≡ left_behind name n (place_in old text) text
 taken old new name n at sets text =
-    btree_map_updates_str name old new None sets text
+    hash_map_updates_str name old new None sets text
     ∙ taken-by (bytes_eq name text) (bytes_eq text name) (place_in old text) n (bytes_eq-sym _ _ name text refl refl) (λ same. ap (place_in old) ((bytes_eq-Decides text name).0 same) ∙ at)
 
 pub map-push : (names : List (Bor (List ℕ))) (name : Bor (List ℕ)) → map (λ n. n.now) (names ++ name ∷ []) ≡ map (λ n. n.now) names ++ name.now ∷ []
@@ -109,7 +107,7 @@ place-within names text (Some n) is = let below : n < 0 + length names = within-
 
 -- ---- one more name, and one less
 
-pub pushed : (old new : BTreeMap (Bor (List ℕ)) ℕ) (before all : List (Bor (List ℕ))) (name : Bor (List ℕ)) (n : ℕ)
+pub pushed : {S : Type 0} (old new : HashMap (Bor (List ℕ)) ℕ S) (before all : List (Bor (List ℕ))) (name : Bor (List ℕ)) (n : ℕ)
     → IsIndexed old (texts before) → n ≡ length before → all ≡ before ++ name ∷ [] → ((text : List ℕ) → place_in new text ≡ noted_at name.now n (place_in old text) text)
     → IsIndexed new (texts all)
 pushed old new before all name n indexed long is now text =
@@ -124,7 +122,7 @@ popped-by true (Some m) n within = unless-other n m within
 popped-by false None n within = refl
 popped-by false (Some m) n within = refl
 
-pub popped : (old new : BTreeMap (Bor (List ℕ)) ℕ) (before all : List (Bor (List ℕ))) (name : Bor (List ℕ)) (n : ℕ)
+pub popped : {S : Type 0} (old new : HashMap (Bor (List ℕ)) ℕ S) (before all : List (Bor (List ℕ))) (name : Bor (List ℕ)) (n : ℕ)
     → IsIndexed old (texts all) → n ≡ length before → all ≡ before ++ name ∷ [] → ((text : List ℕ) → place_in new text ≡ left_behind name.now n (place_in old text) text)
     → IsIndexed new (texts before)
 popped old new before all name n indexed long is now text =

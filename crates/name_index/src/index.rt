@@ -4,7 +4,7 @@ ghost use Rattle.name_index.specs.Place.{place};
 use crate::noting::{note, take_back};
 use item_types::Memory;
 use std::alloc::Global;
-use std::collections::BTreeMap;
+use std::collections::HashMap;
 use std::marker::Model;
 
 /// Names in a row, of which the first that equals a text is found without a look at the others.
@@ -12,7 +12,7 @@ use std::marker::Model;
 #[derive(Drop)]
 pub struct Index<'a> {
     names: Vec<&'a str>,
-    places: BTreeMap<&'a str, usize>,
+    places: HashMap<&'a str, usize>,
 }
 
 impl<'a> Model for Index<'a> {
@@ -33,7 +33,7 @@ impl<'a> Index<'a> {
     {
         Index {
             names: Vec::new(alloc),
-            places: BTreeMap::new(alloc),
+            places: HashMap::new(alloc),
         }
     }
 
