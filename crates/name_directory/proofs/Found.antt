@@ -2,15 +2,13 @@
 use denote.Ref.{Bor}
 use Rattle.std.proofs.lemmas.List.{length-map, length-take-le, map-append}
 use Rattle.std.proofs.lemmas.Grind.{take_at_read}
-use Rattle.std.proofs.lemmas.Map.Text.{btree_map_updates_text}
+use Rattle.std.proofs.lemmas.Map.Text.{hash_map_updates_text}
 use Rattle.std.proofs.lemmas.Slice.Eq.{bytes_eq-Decides}
 use Rattle.std.proofs.lemmas.Slice.Zip.{AllZip-left, AllZip-right}
-use Rattle.std.specs.BTreeMap.{BTreeMap, get_by_text, UpdatesBy}
-use Rattle.std.specs.Cmp.Lexicographic.{slice_cmp}
+use Rattle.std.specs.HashMap.{HashMap, get_by_text, UpdatesBy}
 use Rattle.std.specs.List.{AllZip}
-use Rattle.std.specs.Ordering.{nat_cmp}
 use Rattle.std.specs.Prelude.{String, string_bytes, is_some, IsSomeAnd, MatchOption}
-use Rattle.std.specs.String.{string_cmp}
+use Rattle.std.specs.String.{string_eq}
 use Rattle.name_index.specs.Indexed.{noted_at}
 use Rattle.std.proofs.Common.{take, length, get_or, subst, ◌++◌, ◌≡◌, ◌∙◌, ◌≤◌, ◌<◌, ◌+◌, ap, sym, refl, arith, inl, inr, ℕ, suc, Bool, true, false, cond, List, [], ◌∷◌, map, Option, Some, None, ◌==◌}
 use Rattle.std.specs.List.{position_from}
@@ -82,26 +80,26 @@ numbered name xs names w is = ap (λ (ns : List (List ℕ)). number_at (place ns
 abbrev pub method_place : Option RecorderDecl → List ℕ → ℕ
 method_place found m = place_of (λ (x : MethodSig). x.name) 0 (methods_by found) m
 
-some-by : {Y : Type 0} (places : BTreeMap (String Y) ℕ) (found : Option RecorderDecl) (m : List ℕ) → IsSomeAnd found (λ r. HasPlaces places (method_names r)) → number_at (get_by_text places m) ≡ method_place found m
+some-by : {Y S : Type 0} (places : HashMap (String Y) ℕ S) (found : Option RecorderDecl) (m : List ℕ) → IsSomeAnd found (λ r. HasPlaces places (method_names r)) → number_at (get_by_text places m) ≡ method_place found m
 some-by places (Some r) m has = ap number_at (has m) ∙ numbered (λ (x : MethodSig). x.name) r.methods (method_names r) m refl
 some-by places None m has = absurd has
 
-at-some : {Y : Type 0} (places : BTreeMap (String Y) ℕ) (at : Option (BTreeMap (String Y) ℕ)) (found : Option RecorderDecl) → Some places ≡ at
+at-some : {Y S : Type 0} (places : HashMap (String Y) ℕ S) (at : Option (HashMap (String Y) ℕ S)) (found : Option RecorderDecl) → Some places ≡ at
     → MatchOption at (Unit {0}) (λ ps. IsSomeAnd found (λ r. HasPlaces ps (method_names r))) → IsSomeAnd found (λ r. HasPlaces places (method_names r))
-at-some {Y} places at found is matched = subst (λ (o : Option (BTreeMap (String Y) ℕ)). MatchOption o (Unit {0}) (λ ps. IsSomeAnd found (λ r. HasPlaces ps (method_names r)))) (sym is) matched
+at-some {Y} {S} places at found is matched = subst (λ (o : Option (HashMap (String Y) ℕ S)). MatchOption o (Unit {0}) (λ ps. IsSomeAnd found (λ r. HasPlaces ps (method_names r)))) (sym is) matched
 
 -- the number of a method among the methods of the recorder of that number
-pub method_some : {Y : Type 0} (rs : List RecorderDecl) (all : List (BTreeMap (String Y) ℕ)) (k : ℕ) (places : BTreeMap (String Y) ℕ) (m : List ℕ) → AreMethods all rs → Some places ≡ slice_get all k
+pub method_some : {Y S : Type 0} (rs : List RecorderDecl) (all : List (HashMap (String Y) ℕ S)) (k : ℕ) (places : HashMap (String Y) ℕ S) (m : List ℕ) → AreMethods all rs → Some places ≡ slice_get all k
     → number_at (get_by_text places m) ≡ method_place (slice_get rs k) m
 method_some rs all k places m are at =
     some-by places (slice_get rs k) m (at-some places (slice_get all k) (slice_get rs k) at (AllZip-left (λ ps r. HasPlaces ps (method_names r)) all rs are k))
 
-none-by : {Y : Type 0} (at : Option (BTreeMap (String Y) ℕ)) (found : Option RecorderDecl) (m : List ℕ) → None ≡ at
+none-by : {Y S : Type 0} (at : Option (HashMap (String Y) ℕ S)) (found : Option RecorderDecl) (m : List ℕ) → None ≡ at
     → MatchOption found (Unit {0}) (λ r. IsSomeAnd at (λ ps. HasPlaces ps (method_names r))) → no_number ≡ method_place found m
 none-by at None m is matched = refl
-none-by {Y} at (Some r) m is matched = absurd (subst (λ (o : Option (BTreeMap (String Y) ℕ)). IsSomeAnd o (λ ps. HasPlaces ps (method_names r))) (sym is) matched)
+none-by {Y} {S} at (Some r) m is matched = absurd (subst (λ (o : Option (HashMap (String Y) ℕ S)). IsSomeAnd o (λ ps. HasPlaces ps (method_names r))) (sym is) matched)
 
-pub method_none : {Y : Type 0} (rs : List RecorderDecl) (all : List (BTreeMap (String Y) ℕ)) (k : ℕ) (m : List ℕ) → AreMethods all rs → None ≡ slice_get all k → no_number ≡ method_place (slice_get rs k) m
+pub method_none : {Y S : Type 0} (rs : List RecorderDecl) (all : List (HashMap (String Y) ℕ S)) (k : ℕ) (m : List ℕ) → AreMethods all rs → None ≡ slice_get all k → no_number ≡ method_place (slice_get rs k) m
 method_none rs all k m are at = none-by (slice_get all k) (slice_get rs k) m at (AllZip-right (λ ps r. HasPlaces ps (method_names r)) all rs are k)
 
 -- ---- a map of places, name by name
@@ -120,15 +118,15 @@ noted-by false false found n same absent = or-none found
 noted-by true false found n same absent = cc
 noted-by false true found n same absent = cc
 
-pub noted : {Y : Type 0} (old new : BTreeMap (String Y) ℕ) (key name : List ℕ) (found : Option (Bor ℕ)) (n : ℕ) → key ≡ name → option_copied found ≡ get_by_text old name → is_some found ≡ false
-    → UpdatesBy string_cmp (λ k. slice_cmp nat_cmp key (string_bytes k)) old new (Some n) → (text : List ℕ) → get_by_text new text ≡ noted_at name n (get_by_text old text) text
+pub noted : {Y S : Type 0} (old new : HashMap (String Y) ℕ S) (key name : List ℕ) (found : Option (Bor ℕ)) (n : ℕ) → key ≡ name → option_copied found ≡ get_by_text old name → is_some found ≡ false
+    → UpdatesBy string_eq (λ k. bytes_eq key (string_bytes k)) old new (Some n) → (text : List ℕ) → get_by_text new text ≡ noted_at name n (get_by_text old text) text
 noted old new key name found n same looked is sets text =
     let absent : get_by_text old name ≡ None = sym looked ∙ none-of found is in
-    btree_map_updates_text key old new (Some n) sets text
+    hash_map_updates_text key old new (Some n) sets text
     ∙ ap (λ (v : List ℕ). cond (bytes_eq v text) (Some n) (get_by_text old text)) same
     ∙ noted-by (bytes_eq name text) (bytes_eq text name) (get_by_text old text) n (bytes_eq-sym _ _ name text refl refl) (λ equal. ap (get_by_text old) ((bytes_eq-Decides text name).0 equal) ∙ absent)
 
-pub noted_more : {A Y : Type 0} (named : A → List ℕ) (xs : List A) (i : ℕ) (x : A) (name : List ℕ) (old new : BTreeMap (String Y) ℕ) → i < length xs → x ≡ get_or xs i x → name ≡ named x
+pub noted_more : {A Y S : Type 0} (named : A → List ℕ) (xs : List A) (i : ℕ) (x : A) (name : List ℕ) (old new : HashMap (String Y) ℕ S) → i < length xs → x ≡ get_or xs i x → name ≡ named x
     → HasPlaces old (map named (take i xs)) → ((text : List ℕ) → get_by_text new text ≡ noted_at name i (get_by_text old text) text)
     → HasPlaces new (map named (take (i + 1) xs))
 noted_more {A} named xs i x name old new below at is before now text =
@@ -147,10 +145,10 @@ zip-push R [] (z ∷ ys) x y all here = absurd all
 zip-push R (z ∷ xs) [] x y all here = absurd all
 zip-push R (z ∷ xs) (w ∷ ys) x y all here = (all.0, zip-push R xs ys x y all.1 here)
 
-pub one_more : {Y : Type 0} (rs : List RecorderDecl) (i : ℕ) (r : RecorderDecl) (found new : List (BTreeMap (String Y) ℕ)) (places : BTreeMap (String Y) ℕ) → i < length rs → r ≡ get_or rs i r
+pub one_more : {Y S : Type 0} (rs : List RecorderDecl) (i : ℕ) (r : RecorderDecl) (found new : List (HashMap (String Y) ℕ S)) (places : HashMap (String Y) ℕ S) → i < length rs → r ≡ get_or rs i r
     → AreMethods found (take i rs) → HasPlaces places (method_names r) → new ≡ found ++ places ∷ [] → AreMethods new (take (i + 1) rs)
-one_more {Y} rs i r found new places below at so_far has is =
+one_more {Y} {S} rs i r found new places below at so_far has is =
     let longer : take (i + 1) rs ≡ take i rs ++ r ∷ [] = (take_at_read rs i r below).1 ∙ ap (λ (y : RecorderDecl). take i rs ++ y ∷ []) (sym at) in
     subst (λ (v : List RecorderDecl). AreMethods new v) (sym longer)
-    (subst (λ (v : List (BTreeMap (String Y) ℕ)). AreMethods v (take i rs ++ r ∷ [])) (sym is)
+    (subst (λ (v : List (HashMap (String Y) ℕ S)). AreMethods v (take i rs ++ r ∷ [])) (sym is)
     (zip-push (λ ps d. HasPlaces ps (method_names d)) found (take i rs) places r so_far has))

@@ -1,6 +1,6 @@
 -- Maps from the names of all that is declared to their places, and the numbers of places. This project's own.
 use Rattle.std.specs.Prelude.{◌≡◌, ℕ, List, map, Option, Some, None, nat_lt, if◌then◌else◌}
-use Rattle.std.specs.BTreeMap.{BTreeMap, get_by_text}
+use Rattle.std.specs.HashMap.{HashMap, get_by_text}
 use Rattle.std.specs.List.{AllZip}
 use Rattle.std.specs.Prelude.{String}
 use Rattle.item_types.specs.declared.decl.BeanDecl.{BeanDecl}
@@ -13,14 +13,14 @@ use Rattle.name_directory.specs.declared.register.Register.{Register}
 use Rattle.name_index.specs.Place.{place}
 
 -- the map has the first place of each of the names, and no other text
-abbrev pub HasPlaces : {Y : Type 0} → BTreeMap (String Y) ℕ → List (List ℕ) → Type 0
+abbrev pub HasPlaces : {Y S : Type 0} → HashMap (String Y) ℕ S → List (List ℕ) → Type 0
 HasPlaces places names = (text : List ℕ) → get_by_text places text ≡ place names text
 
 abbrev pub method_names : RecorderDecl → List (List ℕ)
 method_names r = map (λ (m : MethodSig). m.name) r.methods
 
 -- the places of each recorder's methods
-abbrev pub AreMethods : {Y : Type 0} → List (BTreeMap (String Y) ℕ) → List RecorderDecl → Type 0
+abbrev pub AreMethods : {Y S : Type 0} → List (HashMap (String Y) ℕ S) → List RecorderDecl → Type 0
 AreMethods all recorders = AllZip (λ places r. HasPlaces places (method_names r)) all recorders
 
 -- the register is of what is declared

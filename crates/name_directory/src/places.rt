@@ -1,17 +1,17 @@
 ghost use Rattle.std.specs.Prelude.{◌≡◌, List, ℕ, OnOk, IfOk, map};
-ghost use Rattle.std.specs.BTreeMap.{get_by_text};
+ghost use Rattle.std.specs.HashMap.{get_by_text};
 ghost use Rattle.name_index.specs.Indexed.{noted_at};
 ghost use Rattle.name_directory.specs.Numbers.{HasPlaces};
 
 use item_types::Memory;
 use name_index::Named;
 use std::alloc::Global;
-use std::collections::BTreeMap;
+use std::collections::HashMap;
 
 /// Notes a name's place, unless the name has one.
 fn note(
     alloc: Global,
-    places: &mut BTreeMap<String, usize>,
+    places: &mut HashMap<String, usize>,
     name: &str,
     place: usize,
 ) -> Result<(), Memory>
@@ -31,10 +31,10 @@ fn note(
 pub(crate) fn places_of<M: Named>(
     alloc: Global,
     things: &[M],
-) -> Result<BTreeMap<String, usize>, Memory>
+) -> Result<HashMap<String, usize>, Memory>
     ensures { IfOk result (λ places. HasPlaces places (map M.named things.now)) }
 {
-    let mut places = BTreeMap::new(alloc);
+    let mut places = HashMap::new(alloc);
     for (index, thing) in things.iter().enumerate() {
         note(alloc, &mut places, thing.named(), index)?;
     }

@@ -4,24 +4,24 @@ ghost use Rattle.name_directory.specs.Numbers.{AreMethods, IsRegister};
 use crate::places::places_of;
 use item_types::{Memory, Names, RecorderDecl, Seq};
 use std::alloc::Global;
-use std::collections::BTreeMap;
+use std::collections::HashMap;
 
 /// Maps from the names of all that is declared to their places. A [`crate::Directory`] looks names
 /// up in it.
 #[derive(Drop)]
 pub struct Register {
-    pub(crate) items: BTreeMap<String, usize>,
-    pub(crate) beans: BTreeMap<String, usize>,
-    pub(crate) recorders: BTreeMap<String, usize>,
+    pub(crate) items: HashMap<String, usize>,
+    pub(crate) beans: HashMap<String, usize>,
+    pub(crate) recorders: HashMap<String, usize>,
     /// For each recorder, those of its methods.
-    pub(crate) methods: Seq<BTreeMap<String, usize>>,
+    pub(crate) methods: Seq<HashMap<String, usize>>,
 }
 
 /// The places of each recorder's methods.
 fn places_of_methods(
     alloc: Global,
     recorders: &[RecorderDecl],
-) -> Result<Seq<BTreeMap<String, usize>>, Memory>
+) -> Result<Seq<HashMap<String, usize>>, Memory>
     ensures { IfOk result (λ all. AreMethods all recorders.now) }
 {
     let mut found = Seq::new(alloc);

@@ -1,5 +1,5 @@
 use Rattle.std.proofs.Common.{◌≡◌, ◌∙◌, sym, subst, List, ℕ, OnOk}
-use Rattle.std.specs.BTreeMap.{get_by_text}
+use Rattle.std.specs.HashMap.{get_by_text}
 use Rattle.std.specs.Prelude.{string_bytes}
 use Rattle.name_index.specs.Indexed.{noted_at}
 use Rattle.name_directory.proofs.Found.{noted}
