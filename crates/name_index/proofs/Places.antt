@@ -3,14 +3,13 @@ use denote.Ref.{Bor}
 use Rattle.std.proofs.Common.{◌≤◌, ◌≡◌, ◌+◌, ◌<◌, ◌∙◌, ℕ, suc, ap, sym, refl, arith, inl, inr, Bool, true, false, cond, List, [], ◌∷◌, ◌++◌, length, map, Option, Some, None, IfSome, add-zero}
 use Rattle.std.specs.HashMap.{HashMap, UpdatesBy}
 use Rattle.std.specs.List.{position_from}
-use Rattle.std.specs.Option.{option_or, option_copied}
+use Rattle.std.specs.Option.{option_or}
 use Rattle.std.specs.Str.{bytes_eq}
 use Rattle.std.proofs.lemmas.Map.Text.{hash_map_updates_str}
 use Rattle.std.proofs.lemmas.Slice.Eq.{bytes_eq-Decides}
 use Rattle.name_index.specs.Place.{place}
 use Rattle.name_index.specs.Indexed.{texts, place_in, IsIndexed, noted_at, unless, left_behind}
 use Rattle.std.proofs.lemmas.Bool.Decides.{eqb_tells}
-use Rattle.std.specs.Prelude.{is_some}
 
 placed-in : (b : Bool) (rest all last : Option ℕ) (i : ℕ) → all ≡ option_or rest last → cond b (Some i) all ≡ option_or (cond b (Some i) rest) last
 placed-in true rest all last i is = refl
@@ -28,10 +27,6 @@ placed-from test i (x ∷ names) name =
 pub placed : (names : List (List ℕ)) (name text : List ℕ) → place (names ++ name ∷ []) text ≡ option_or (place names text) (cond (bytes_eq text name) (Some (length names)) None)
 placed names name text = placed-from (bytes_eq text) 0 names name ∙ ap (λ n. option_or (place names text) (cond (bytes_eq text name) (Some n) None)) (omega arith)
 
-or-none : (o : Option ℕ) → o ≡ option_or o None
-or-none None = refl
-or-none (Some n) = refl
-
 pub bytes_eq-sym : (b c : Bool) (x y : List ℕ) → bytes_eq x y ≡ b → bytes_eq y x ≡ c → b ≡ c
 bytes_eq-sym true true x y p q = refl
 bytes_eq-sym false false x y p q = refl
@@ -41,17 +36,6 @@ bytes_eq-sym true false x y p q =
 bytes_eq-sym false true x y p q =
     let same : y ≡ x = (bytes_eq-Decides y x).0 q in
     let e : bytes_eq x y ≡ true = (bytes_eq-Decides x y).1 (sym same) in cc
-
--- a look-up after the name was noted at place n
-noted-by : (b c : Bool) (found : Option ℕ) (n : ℕ) → b ≡ c → (c ≡ true → found ≡ None) → cond b (Some n) found ≡ option_or found (cond c (Some n) None)
-noted-by true true found n same absent = ap (λ f. option_or f (Some n)) (sym (absent refl))
-noted-by false false found n same absent = or-none found
-noted-by true false found n same absent = cc
-noted-by false true found n same absent = cc
-
-none-of : {A : Type 0} (found : Option (Bor A)) → is_some found ≡ false → option_copied found ≡ None
-none-of None is = refl
-none-of (Some x) is = cc
 
 unless-same : (n : ℕ) → unless n (Some n) ≡ None
 unless-same n = elim (eqb_tells n n) [ inl e ↦ ap (λ b. cond b None (Some n)) e.0 | inr f ↦ absurd (f.1 refl) ]
@@ -65,13 +49,6 @@ unless-other n m below =
 
 abbrev pub Sets : {S : Type 0} → List ℕ → HashMap (Bor (List ℕ)) ℕ S → HashMap (Bor (List ℕ)) ℕ S → Option ℕ → Type 0
 Sets name old new value = UpdatesBy (λ (x y : Bor (List ℕ)). bytes_eq x.now y.now) (λ (k : Bor (List ℕ)). bytes_eq name k.now) old new value
-
-pub noted : {S : Type 0} (old new : HashMap (Bor (List ℕ)) ℕ S) (name : List ℕ) (found : Option (Bor ℕ)) (n : ℕ) → option_copied found ≡ place_in old name → is_some found ≡ false → Sets name old new (Some n)
-    → (text : List ℕ) → place_in new text ≡ noted_at name n (place_in old text) text
-noted old new name found n looked is sets text =
-    let absent : place_in old name ≡ None = sym looked ∙ none-of found is in
-    hash_map_updates_str name old new (Some n) sets text
-    ∙ noted-by (bytes_eq name text) (bytes_eq text name) (place_in old text) n (bytes_eq-sym _ _ name text refl refl) (λ same. ap (place_in old) ((bytes_eq-Decides text name).0 same) ∙ absent)
 
 taken-by : (b c : Bool) (found : Option ℕ) (n : ℕ) → b ≡ c → (c ≡ true → found ≡ Some n) → cond b None found ≡ cond c (unless n found) found
 taken-by true true found n same at = sym (ap (unless n) (at refl) ∙ unless-same n)

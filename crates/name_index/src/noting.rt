@@ -13,11 +13,11 @@ pub fn note<'a>(
     ensures ok { OnOk result ((text : List ℕ) → place_in places.new text ≡ noted_at name.now place (place_in places.old text) text) }
     ensures err { OnErr result ((text : List ℕ) → place_in places.new text ≡ place_in places.old text) }
 {
-    if places.get(name).is_some() {
-        return Ok(());
-    }
-    match places.insert(name, place) {
-        Ok(_) => Ok(()),
+    match places.entry(name) {
+        Ok(found) => {
+            found.or_insert(place);
+            Ok(())
+        }
         Err(_) => Err(Memory),
     }
 }
