@@ -193,7 +193,7 @@ fn value_of_new(
     ensures { Evals (spec.new_of cx.now at bean (map (λ f. (f.0, meaning cx.now f.1)) fields.now) state.old) result state.new }
 {
     let written = values_of_fields(alloc, cx, state, fields)?;
-    let parts = arranged(alloc, cx.names().fields_of(bean), written.as_slice())?;
+    let parts = arranged(alloc, cx.names().fields_of(bean), written)?;
     state.made_bean(at, cx.step(), bean, parts)
 }
 

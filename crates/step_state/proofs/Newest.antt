@@ -1,6 +1,7 @@
 -- The newest value of a name, looked for from the end.
-use Rattle.std.proofs.Common.{◌≡◌, ℕ, suc, ◌<◌, List, [], ◌∷◌, ◌++◌, length, take, get_or, cond, true, false, Option, Some, None, refl, sym, ap, subst, ◌∙◌}
+use Rattle.std.proofs.Common.{◌≡◌, ℕ, zero, suc, ◌+◌, ◌<◌, List, [], ◌∷◌, ◌++◌, length, take, drop, get_or, cond, true, false, Option, Some, None, refl, sym, ap, subst, ◌∙◌}
 use Rattle.std.proofs.Math.Seq.{take-suc}
+use Rattle.std.proofs.lemmas.List.{drop_more}
 use Rattle.std.specs.Str.{bytes_eq}
 use Rattle.item_types.specs.declared.value.Value.{Value}
 use Rattle.step_state.specs.Found.{found, or_else}
@@ -42,3 +43,21 @@ newest_there es name m n e h is at same so_far =
     ap (λ k. found (take k es) name) is ∙ found-take es name n e h in
     let fits : bytes_eq (get_or es n e).0 name ≡ true = subst (λ (x : List ℕ × Value). bytes_eq x.0 name ≡ true) at same in
     ap (λ (x : List ℕ × Value). Some x.1) at ∙ (sym (step ∙ ap (λ b. or_else (cond b (Some (get_or es n e).1) None) (found (take n es) name)) fits) ∙ so_far)
+
+-- what is found in the entries from a place on is the newest of all
+found_later : (es : List (List ℕ × Value)) (name : List ℕ) (n : ℕ) (v : Value) → found (drop n es) name ≡ Some v → found es name ≡ Some v
+found_later es name zero v there = there
+found_later [] name (suc n) v there = there
+found_later (x ∷ es) name (suc n) v there =
+    ap (λ o. or_else o (cond (bytes_eq x.0 name) (Some x.1) None)) (found_later es name n v there)
+
+-- an entry of this name, with none of the name after it
+pub found_last : (es : List (List ℕ × Value)) (name : List ℕ) (n : ℕ) (e : List ℕ × Value) → n < length es → e ≡ get_or es n e → bytes_eq e.0 name ≡ true → found (drop (n + 1) es) name ≡ None →
+    found es name ≡ Some e.1
+found_last es name n e h at same none =
+    let there : found (drop n es) name ≡ Some e.1 =
+    ap (λ (l : List (List ℕ × Value)). found l name) (drop_more es n e h) ∙
+    (ap (λ (x : List ℕ × Value). or_else (found (drop (n + 1) es) name) (cond (bytes_eq x.0 name) (Some x.1) None)) (sym at) ∙
+    (ap (λ o. or_else o (cond (bytes_eq e.0 name) (Some e.1) None)) none ∙
+    ap (λ b. cond b (Some e.1) None) same)) in
+    found_later es name n e.1 there

@@ -1,6 +1,7 @@
 // The operations on values. `at` is the number of the operation's token.
 
-ghost use Rattle.std.specs.Prelude.{◌≡◌, ◌<◌, ◌^◌, if◌then◌else◌, length, IfOk};
+ghost use Rattle.std.specs.Prelude.{◌≡◌, ◌<◌, ◌^◌, if◌then◌else◌, length, map, IfOk};
+ghost use Rattle.std.specs.Bool.{OnTrue};
 ghost use Rattle.std.specs.Option.{option_copied};
 ghost use Rattle.std.specs.Str.{chars};
 ghost use Rattle.item_types.specs.Named.{part_of};
@@ -185,16 +186,60 @@ pub fn field(
     }
 }
 
-/// The values in the declared order of their fields.
-#[tactic(auto, unfolding(crate::specs::Operations::arranged))]
+/// The values in the declared order of their fields. Parts that were written in that order are
+/// moved there, and others copied.
 pub fn arranged(
+    alloc: Global,
+    fields: &[Text],
+    written: Seq<(Text, Value)>,
+) -> Result<Seq<Value>, Memory>
+    ensures { IfOk result (λ vs. vs ≡ spec.arranged fields.now written) }
+{
+    if is_in_order(fields, written.as_slice()) {
+        return written_values(alloc, written);
+    }
+    arranged_copies(alloc, fields, written.as_slice())
+}
+
+/// Whether each field was written at its own place, and not again after it. Then the values as
+/// they were written are in the declared order.
+#[tactic(auto, unfolding(crate::specs::Operations::arranged))]
+fn is_in_order(fields: &[Text], written: &[(Text, Value)]) -> bool
+    ensures { OnTrue result (spec.arranged fields.now written.now ≡ map (λ p. p.1) written.now) }
+{
+    if fields.len() != written.len() {
+        return false;
+    }
+    for i in 0..written.len() {
+        let field = fields[i].as_str();
+        if written[i].0.as_str() != field || newest(&written[i + 1..], field).is_some() {
+            return false;
+        }
+    }
+    true
+}
+
+/// The values as they were written.
+fn written_values(alloc: Global, written: Seq<(Text, Value)>) -> Result<Seq<Value>, Memory>
+    ensures { IfOk result (λ vs. vs ≡ map (λ p. p.1) written) }
+{
+    let mut values = Seq::with_capacity(alloc, written.len())?;
+    for (_, value) in written.into_vec() {
+        values.push(value)?;
+    }
+    Ok(values)
+}
+
+/// Copies of the values in the declared order of their fields.
+#[tactic(auto, unfolding(crate::specs::Operations::arranged))]
+fn arranged_copies(
     alloc: Global,
     fields: &[Text],
     written: &[(Text, Value)],
 ) -> Result<Seq<Value>, Memory>
     ensures { IfOk result (λ vs. vs ≡ spec.arranged fields.now written.now) }
 {
-    let mut values = Seq::new(alloc);
+    let mut values = Seq::with_capacity(alloc, fields.len())?;
     for field in fields {
         let value = match newest(written, field.as_str()) {
             Some(value) => value.try_copy(alloc)?,

@@ -100,7 +100,7 @@ fn same_lists(xs: &[Seq<Value>], ys: &[Seq<Value>]) -> bool
 fn copy_lists(alloc: Global, lists: &[Seq<Value>]) -> Result<Seq<Seq<Value>>, Memory>
     ensures { IfOk result (λ s. s ≡ lists.now) }
 {
-    let mut copies = Seq::new(alloc);
+    let mut copies = Seq::with_capacity(alloc, lists.len())?;
     for list in lists {
         copies.push(copy_values(alloc, list.as_slice())?)?;
     }
@@ -130,7 +130,7 @@ fn same_put(x: &(u32, Value), y: &(u32, Value)) -> bool
 fn copy_puts(alloc: Global, puts: &[(u32, Value)]) -> Result<Seq<(u32, Value)>, Memory>
     ensures { IfOk result (λ s. s ≡ puts.now) }
 {
-    let mut copies = Seq::new(alloc);
+    let mut copies = Seq::with_capacity(alloc, puts.len())?;
     for put in puts {
         let value = put.1.try_copy(alloc)?;
         copies.push((put.0, value))?;
