@@ -172,7 +172,7 @@ pub fn values_of(
 ) -> Result<Seq<Value>, Stop>
     ensures { Evals (spec.all (map (meaning cx.now) parts.now) state.old) result state.new }
 {
-    let mut out = Seq::new(alloc);
+    let mut out = Seq::with_capacity(alloc, parts.len())?;
     for part in parts {
         let v = value_of(alloc, cx, state, part)?;
         out.push(v)?;
@@ -206,7 +206,7 @@ fn values_of_fields(
 ) -> Result<Seq<(Text, Value)>, Stop>
     ensures { Evals (spec.named (map (λ f. (f.0, meaning cx.now f.1)) fields.now) state.old) result state.new }
 {
-    let mut out = Seq::new(alloc);
+    let mut out = Seq::with_capacity(alloc, fields.len())?;
     for field in fields {
         let v = value_of(alloc, cx, state, &field.1)?;
         let name = field.0.try_copy(alloc)?;
