@@ -2,7 +2,6 @@
 use Rattle.std.proofs.Common.{◌≡◌, ◌↔◌, ℕ, zero, suc, ◌<◌, List, [], ◌∷◌, Bool, true, false, ◌&&◌, ◌||◌, not, ◌==◌, length, get_or, Contains, IsTrue, refl, sym, ap, ◌∙◌, subst, arith, ◌⊎◌, inl, inr}
 use Rattle.std.specs.List.{list_any}
 use Rattle.std.proofs.lemmas.Bool.{eqb-true, eq-eqb}
-use Rattle.item_types.specs.declared.step.Produce.{Produce}
 use Rattle.item_types.specs.declared.step.StepDecl.{StepDecl}
 use Rattle.chain_builder.specs.Lists.{list_at}
 use Rattle.chain_builder.specs.EffectiveProducer.{produced, productions, AllOverridable, IsEffectiveProducer}

@@ -1,5 +1,5 @@
 -- A job: an accepted chain, the declared names, and a body for each step. This project's own.
-use Rattle.std.specs.Prelude.{◌≡◌, ℕ, Bool, true, false, ◌&&◌, ◌||◌, not, ◌==◌, List, [], length, None, slice_index_or}
+use Rattle.std.specs.Prelude.{◌≡◌, ℕ, Bool, false, ◌&&◌, ◌||◌, not, ◌==◌, List, [], length, None, slice_index_or}
 use Rattle.std.specs.List.{list_any}
 use Rattle.item_types.specs.declared.decl.Names.{Names}
 use Rattle.item_types.specs.declared.step.Consume.{Consume}

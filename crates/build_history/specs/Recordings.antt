@@ -1,5 +1,5 @@
 -- The recordings of a history: what an application's start plays. This project's own.
-use Rattle.std.specs.Prelude.{ℕ, Bool, true, false, if◌then◌else◌, List, [], ◌∷◌, ◌++◌, Option, Some, None}
+use Rattle.std.specs.Prelude.{Bool, true, false, if◌then◌else◌, List, [], ◌∷◌, ◌++◌, Option, Some, None}
 use Rattle.std.specs.List.{flat_map}
 use Rattle.item_types.specs.declared.step.Phase.{Phase}
 use Rattle.item_types.specs.declared.step.Phase.TheVariants.{Static, Runtime}

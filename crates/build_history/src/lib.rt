@@ -16,4 +16,4 @@ pub use event::Event;
 pub use history::History;
 pub use job::Job;
 pub use laws::{kept_puts_are_effective, nothing_is_a_run};
-pub use work::Work;
+pub use work::{Work, evaluate};
