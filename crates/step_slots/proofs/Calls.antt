@@ -29,8 +29,7 @@ use Rattle.step_slots.specs.declared.mark.Mark.TheVariants.{Waiting, Released, T
 use Rattle.step_slots.specs.declared.slot.Slot.{Slot}
 use Rattle.step_slots.specs.Built.{Built, mark_at, is_halted, mark_after, no_consume, settled, after_end, HasEnded, Fits}
 use Rattle.step_slots.specs.Marks.{no_slot, slot_at}
-use Rattle.step_slots.specs.declared.kept.Kept.{Kept as Keeping}
-use Rattle.step_slots.specs.Keeping.{with_kept, IsRoomFor, HasKeys}
+use Rattle.step_slots.specs.Keeping.{IsRoomFor, HasKeys}
 use Rattle.step_slots.specs.Parts.{AreReleased}
 use Rattle.step_slots.specs.Rooms.{owed, owed_at, IsKeyed, IsSmall, IsRoomier}
 use Rattle.step_slots.specs.Sound.{IsSound}
@@ -219,17 +218,20 @@ meanings job other s i lists more e names decl body same =
     ∙ ap (λ l. meaning_of_a_body other.names (decl_at other s) s (body_at other s) (record { lists = l })) same
     ∙ ap (λ n. meaning_of_a_body other.names (decl_at other n) n (body_at other n) (record { lists = more })) e
 
+-- the outcome of a work that fits is what the step's body means for what the step took
+pub fits_meant : (b : Built) (w : Worked) → IsMeant w → Fits b w → w.outcome ≡ meaning_at b.job w.step (slot_at b.slots w.step).inputs.lists
+fits_meant b w meant fits =
+    meant.meant ∙ meanings w.job b.job w.step w.step w.inputs.lists (slot_at b.slots w.step).inputs.lists refl fits.0 fits.1 fits.2 (ap (λ (x : Inputs). x.lists) fits.3)
+
 pub hand_call : (v b : Built) → v ≡ b → (h h2 : Kept) (store store2 : Stored) (counts members : List ℕ) (failed : Bool)
-    → IsSound v.job h store counts members v.slots failed → (w : Worked) → w.step < length b.job.plan.steps → mark_at b w.step ≡ Ready → IsMeant w → Fits b w
-    → (s : ℕ) → s ≡ w.step → (t t2 : Slot) (k : Keeping) (o : Outcome) → t ≡ get_or v.slots s t → o ≡ w.outcome → ((u : Slot) → with_kept u k ≡ settled v.job s u o) → t2 ≡ with_kept t k
-    → h2.events ≡ h.events → IsRoomier store store2 → IsRoomFor k h.spare h2.spare store store2 → HasKeys v.job.names k
+    → IsSound v.job h store counts members v.slots failed → (s : ℕ) → s < length b.job.plan.steps → mark_at b s ≡ Ready
+    → (t t2 : Slot) (o : Outcome) → t ≡ get_or v.slots s t → o ≡ meaning_at b.job s (slot_at b.slots s).inputs.lists → HasBoundedValues o → t2 ≡ settled v.job s t o
+    → h2.events ≡ h.events → IsRoomier store store2 → IsRoomFor v.job s o h.spare h2.spare store store2 → HasKeys v.job s o
     → IsSound v.job h2 store2 counts members (set v.slots s t2) failed
-hand_call v b e h h2 store store2 counts members failed is w lt ready meant fits s step t t2 k o slot out kept_is new events more room keys =
-    let lt' : s < length v.job.plan.steps = subst (λ n. n < length v.job.plan.steps) (sym step) (on_view v b e (λ x. w.step < length x.job.plan.steps) lt) in
-    let ready' : mark_at v s ≡ Ready = subst (λ n. mark_at v n ≡ Ready) (sym step) (on_view v b e (λ x. mark_at x w.step ≡ Ready) ready) in
-    let fits' : Fits v w = on_view v b e (λ x. Fits x w) fits in
+hand_call v b e h h2 store store2 counts members failed is s lt ready t t2 o slot meant small new events more room keys =
+    let lt' : s < length v.job.plan.steps = on_view v b e (λ x. s < length x.job.plan.steps) lt in
+    let ready' : mark_at v s ≡ Ready = on_view v b e (λ x. mark_at x s ≡ Ready) ready in
+    let meant' : o ≡ meaning_at v.job s (slot_at v.slots s).inputs.lists = on_view v b e (λ x. o ≡ meaning_at x.job s (slot_at x.slots s).inputs.lists) meant in
     let here : slot_at v.slots s ≡ t = slot_read v.slots s t (omega (arith, lt', is.many)) slot in
-    let lists : w.inputs.lists ≡ t.inputs.lists = ap (λ (x : Inputs). x.lists) (fits'.3 ∙ ap (λ n. (slot_at v.slots n).inputs) (sym step) ∙ ap (λ (x : Slot). x.inputs) here) in
-    let same : meaning_at w.job w.step w.inputs.lists ≡ meaning_at v.job s t.inputs.lists = meanings w.job v.job w.step s w.inputs.lists t.inputs.lists (sym step) fits'.0 fits'.1 fits'.2 lists in
-    let gave : meaning_at v.job s t.inputs.lists ≡ o = sym same ∙ sym meant.meant ∙ sym out in
-    hand_sound v.job h h2 store store2 counts members v.slots failed s t t2 o k is lt' here (ap (λ (x : Slot). x.mark) (sym here) ∙ ready') gave (subst HasBoundedValues (sym out) meant.bounded) (kept_is t) new events more room keys
+    let gave : meaning_at v.job s t.inputs.lists ≡ o = ap (λ (x : Slot). meaning_at v.job s x.inputs.lists) (sym here) ∙ sym meant' in
+    hand_sound v.job h h2 store store2 counts members v.slots failed s t t2 o is lt' here (ap (λ (x : Slot). x.mark) (sym here) ∙ ready') gave small new events more room keys

@@ -7,7 +7,6 @@ use Rattle.item_types.specs.declared.value.Value.{Value}
 use Rattle.step_state.specs.declared.outcome.Outcome.{Outcome}
 use Rattle.step_state.specs.declared.outcome.Outcome.TheVariants.{Done, Fails}
 use Rattle.step_eval.specs.BoundedOutcome.{HasBoundedValues}
-use Rattle.item_types.specs.declared.decl.Names.{Names}
 use Rattle.step_state.specs.declared.outcome.Reason.{Reason}
 use Rattle.item_store.specs.Kept.{Kept as Stored, values_of, spare_of, held_of, nothing, SameElsewhere}
 use Rattle.dep_counter.specs.Counting.{AreCounts, IsReleasedBy}
@@ -24,9 +23,7 @@ use Rattle.build_history.specs.Runs.{found_in}
 use Rattle.step_slots.specs.declared.mark.Mark.TheVariants.{Waiting, Released, Taking, Ready, Putting, Failing, Ended, Failed}
 use Rattle.step_slots.specs.declared.slot.Slot.{Slot}
 use Rattle.step_slots.specs.Built.{mark_after, no_consume, settled, after_end}
-use Rattle.step_slots.specs.declared.kept.Kept.{Kept as Keeping}
-use Rattle.step_slots.specs.declared.kept.Kept.TheVariants as keeping
-use Rattle.step_slots.specs.Keeping.{with_kept, IsRoomFor, HasKeys}
+use Rattle.step_slots.specs.Keeping.{IsRoomFor, HasKeys}
 use Rattle.step_slots.specs.Marks.{no_slot, slot_at, IsState}
 use Rattle.step_slots.specs.Parts.{AreOpen}
 use Rattle.step_slots.specs.Rooms.{owed, owed_at, owed_of, IsKeyed, IsSmall, HasSmallArgs, IsRoomier}
@@ -316,28 +313,22 @@ open_sound job h store counts members slots are none names empty counts_are rele
 }
 
 -- the slot with what is kept of an outcome
-kept_small : (job : JobView) (s : ℕ) (t : Slot) (o : Outcome) (k : Keeping) → with_kept t k ≡ settled job s t o → HasBoundedValues o → t.left ≡ [] → All HasSmallArgs t.calls
-    → All IsSmall (with_kept t k).left × All HasSmallArgs (with_kept t k).calls
-kept_small job s t (Done puts calls) k e small none had = (
-  subst (All IsSmall) (sym (ap (λ (x : Slot). x.left) e)) (All-filter (λ p. is_effective job.plan.steps s p.0) IsSmall puts small.0),
-  subst (All HasSmallArgs) (sym (ap (λ (x : Slot). x.calls) e)) small.1,
-)
-kept_small job s t (Fails r) k e small none had = (
-  subst (All IsSmall) (sym (ap (λ (x : Slot). x.left) e ∙ none)) (All-nil IsSmall),
-  subst (All HasSmallArgs) (sym (ap (λ (x : Slot). x.calls) e)) had,
-)
+kept_small : (job : JobView) (s : ℕ) (t : Slot) (o : Outcome) → HasBoundedValues o → t.left ≡ [] → All HasSmallArgs t.calls
+    → All IsSmall (settled job s t o).left × All HasSmallArgs (settled job s t o).calls
+kept_small job s t (Done puts calls) small none had = (All-filter (λ p. is_effective job.plan.steps s p.0) IsSmall puts small.0, small.1)
+kept_small job s t (Fails r) small none had = (subst (All IsSmall) (sym none) (All-nil IsSmall), had)
 
-kept_keyed : (names : Names) (t : Slot) (k : Keeping) → HasKeys names k → t.left ≡ [] → All (IsKeyed names) (with_kept t k).left
-kept_keyed names t (keeping.Done left calls) keys none = keys
-kept_keyed names t (keeping.Fails r) keys none = subst (All (IsKeyed names)) (sym none) (All-nil (IsKeyed names))
+kept_keyed : (job : JobView) (s : ℕ) (t : Slot) (o : Outcome) → HasKeys job s o → t.left ≡ [] → All (IsKeyed job.names) (settled job s t o).left
+kept_keyed job s t (Done puts calls) keys none = keys
+kept_keyed job s t (Fails r) keys none = subst (All (IsKeyed job.names)) (sym none) (All-nil (IsKeyed job.names))
 
-kept_room : (old new : ℕ) (before after : Stored) (t : Slot) (k : Keeping) → IsRoomFor k old new before after → t.left ≡ []
-    → (new ≡ old + owed (with_kept t k)) × ((item : ℕ) → spare_of after item ≡ spare_of before item + owed_of item (with_kept t k))
-kept_room old new before after t (keeping.Done left calls) room none = (
-  (let e : new ≡ old + length left = room.events in omega (arith, e)),
+kept_room : (job : JobView) (s old new : ℕ) (before after : Stored) (t : Slot) (o : Outcome) → IsRoomFor job s o old new before after → t.left ≡ []
+    → (new ≡ old + owed (settled job s t o)) × ((item : ℕ) → spare_of after item ≡ spare_of before item + owed_of item (settled job s t o))
+kept_room job s old new before after t (Done puts calls) room none = (
+  (let e : new ≡ old + length (kept job s puts) = room.events in omega (arith, e)),
   λ item. room.spares item,
 )
-kept_room old new before after t (keeping.Fails r) room none = (
+kept_room job s old new before after t (Fails r) room none = (
   (let e : new ≡ old + 1 = room.0 in let l : length t.left ≡ 0 = ap length none in omega (arith, e, l)),
   λ item. ap (λ x. spare_of x item) room.1 ∙ sym (ap (λ n. spare_of before item + n) (ap (count_by (λ (p : ℕ × Value). p.0 == item)) none) ∙ plus_zero (spare_of before item)),
 )
@@ -346,25 +337,24 @@ settled_not_released : (job : JobView) (s : ℕ) (t : Slot) (o : Outcome) → (s
 settled_not_released job s t (Done puts calls) q = cc q
 settled_not_released job s t (Fails r) q = cc q
 
-pub hand_sound : (job : JobView) (h h' : Kept) (store store' : Stored) (counts members : List ℕ) (slots : List Slot) (failed : Bool) (s : ℕ) (t t' : Slot) (o : Outcome) (k : Keeping)
+pub hand_sound : (job : JobView) (h h' : Kept) (store store' : Stored) (counts members : List ℕ) (slots : List Slot) (failed : Bool) (s : ℕ) (t t' : Slot) (o : Outcome)
     → IsSound job h store counts members slots failed → s < length job.plan.steps → slot_at slots s ≡ t → t.mark ≡ Ready
-    → meaning_at job s t.inputs.lists ≡ o → HasBoundedValues o → with_kept t k ≡ settled job s t o → t' ≡ with_kept t k
-    → h'.events ≡ h.events → IsRoomier store store' → IsRoomFor k h.spare h'.spare store store' → HasKeys job.names k
+    → meaning_at job s t.inputs.lists ≡ o → HasBoundedValues o → t' ≡ settled job s t o
+    → h'.events ≡ h.events → IsRoomier store store' → IsRoomFor job s o h.spare h'.spare store store' → HasKeys job s o
     → IsSound job h' store' counts members (set slots s t') failed
-hand_sound job h h' store store' counts members slots failed s t t' o k is lt slot mark gave small kept_is new events more room keys =
+hand_sound job h h' store store' counts members slots failed s t t' o is lt slot mark gave small new events more room keys =
     let within : s < length slots = omega (arith, lt, is.many) in
     let here = at_mark job h.events slots s t Ready is.state lt slot mark in
-    let u : Slot = with_kept t k in
-    let sizes = kept_small job s t o k kept_is small here.2 (subst (All HasSmallArgs) (ap (λ (x : Slot). x.calls) slot) (is.room.calls s)) in
-    let rooms = kept_room h.spare h'.spare store store' t k room here.2 in
+    let u : Slot = settled job s t o in
+    let sizes = kept_small job s t o small here.2 (subst (All HasSmallArgs) (ap (λ (x : Slot). x.calls) slot) (is.room.calls s)) in
+    let rooms = kept_room job s h.spare h'.spare store store' t o room here.2 in
     let old_not : (slot_at slots s).mark ≡ Released → ⊥ = λ q. let m : Ready ≡ Released = sym (ap (λ (z : Slot). z.mark) slot ∙ mark) ∙ q in cc m in
-    let new_not : u.mark ≡ Released → ⊥ = λ q. settled_not_released job s t o (sym (ap (λ (x : Slot). x.mark) kept_is) ∙ q) in
     let P : Slot → Type 0 = λ x. IsSound job h' store' counts members (set slots s x) failed in
     subst P (sym new) (record {
       many = length-set slots s u ∙ is.many;
-      state = subst (λ l. IsState job l (set slots s u)) (sym events) (subst (λ x. IsState job h.events (set slots s x)) (sym kept_is) (outcome_state job h.events slots s t o is.state lt slot mark gave));
-      room = room_hand job h h' store store' slots s u is.room within events rooms.0 more rooms.1 (kept_keyed job.names t k keys here.2) sizes.0 sizes.1;
+      state = subst (λ l. IsState job l (set slots s u)) (sym events) (outcome_state job h.events slots s t o is.state lt slot mark gave);
+      room = room_hand job h h' store store' slots s u is.room within events rooms.0 more rooms.1 (kept_keyed job s t o keys here.2) sizes.0 sizes.1;
       counts_are = subst (λ l. AreCounts job.plan (ended l) counts) (sym events) is.counts_are;
-      released = released_set members slots s u is.released within old_not new_not;
+      released = released_set members slots s u is.released within old_not (settled_not_released job s t o);
       failed_is = is.failed_is ∙ ap has_failed (sym events);
     })

@@ -1,14 +1,16 @@
--- Puts in reverse, and room for them.
-use Rattle.std.proofs.Common.{◌≡◌, ◌≢◌, ℕ, ◌<◌, ◌≤◌, ◌+◌, List, [], ◌∷◌, ◌++◌, reverse, map, length, get_or, take, count_by, sum_by, All, Bool, true, false, cond, ◌==◌, refl, sym, ap, ◌∙◌, subst, arith, Result, Ok, Err, OnOk, ◌⊎◌, inl, inr}
+-- Puts in reverse, and room for those that are kept.
+use Rattle.std.proofs.Common.{◌≡◌, ◌≢◌, ℕ, ◌<◌, ◌≤◌, ◌+◌, List, [], ◌∷◌, ◌++◌, reverse, map, length, get_or, take, count_by, sum_by, Bool, true, false, cond, ◌==◌, refl, sym, ap, ◌∙◌, subst, arith, ◌⊎◌, inl, inr}
 use Rattle.std.proofs.lemmas.Bool.{eqb-true, eqb-false}
-use Rattle.std.proofs.lemmas.List.{reverse-reverse, reverse-append, length-reverse, map-append, take_more, length_push}
-use Rattle.std.proofs.lemmas.List.Elements.{All-nil, All-cons, All-append, All-head, All-tail, All-push}
+use Rattle.std.proofs.lemmas.List.{reverse-reverse, reverse-append, map-append, take_more, length-append}
+use Rattle.std.proofs.lemmas.List.Elements.{filter-append}
 use Rattle.std.proofs.lemmas.List.Sums.{sum_by-append, sum_by-cons}
-use Rattle.item_types.specs.declared.decl.Names.{Names}
+use Rattle.item_types.specs.declared.value.Value.{Value}
 use Rattle.item_store.specs.Kept.{Kept as Stored, values_of, spare_of, SameElsewhere, Held}
-use Rattle.step_slots.specs.declared.puts.Twin.{Twin}
-use Rattle.step_slots.specs.Rooms.{IsKeyed, IsRoomier, HasMore}
-use Rattle.step_slots.specs.Twins.{Put, put_of}
+use Rattle.build_history.specs.Jobs.{JobView, is_effective}
+use Rattle.build_history.specs.Scripts.{kept}
+use Rattle.step_slots.specs.Keeping.{values_kept}
+use Rattle.step_slots.specs.Rooms.{IsRoomier, HasMore}
+use Rattle.step_slots.specs.Twins.{Put, value_of}
 
 reverse_cons : {X : Type 0} (x : X) (xs : List X) → reverse (x ∷ xs) ≡ reverse xs ++ x ∷ []
 reverse_cons x xs = reverse-append (x ∷ []) xs
@@ -17,12 +19,20 @@ pub map-reverse : {X Y : Type 0} (f : X → Y) (xs : List X) → map f (reverse 
 map-reverse f [] = refl
 map-reverse f (x ∷ xs) = ap (map f) (reverse_cons x xs) ∙ map-append f (reverse xs) (x ∷ []) ∙ ap (λ z. z ++ f x ∷ []) (map-reverse f xs) ∙ sym (reverse_cons (f x) (map f xs))
 
--- a list that was turned round, seen from its end
-pub seen_back : (xs ys : List Twin) (ps : List Put) → ys ≡ reverse xs → map put_of xs ≡ ps → reverse (map put_of ys) ≡ ps
-seen_back xs ys ps turned is = ap (λ z. reverse (map put_of z)) turned ∙ ap reverse (map-reverse put_of xs) ∙ reverse-reverse (map put_of xs) ∙ is
+-- a list that was turned round, seen from its end, and the values of its elements
+pub seen_back : (ps turned : List Put) → turned ≡ reverse ps → reverse turned ≡ ps
+seen_back ps turned is = ap reverse is ∙ reverse-reverse ps
 
-plus_turn : (a b : ℕ) → a + (b + 0) ≡ b + a
-plus_turn a b = omega arith
+pub values_back : (again both : List Value) (ps turned : List Put) → again ≡ map value_of ps → both ≡ reverse again → turned ≡ reverse ps → both ≡ map value_of turned
+values_back again both ps turned values is back = is ∙ ap reverse values ∙ sym (map-reverse value_of ps) ∙ sym (ap (map value_of) back)
+
+-- the puts that are kept of the first ones, and of one more
+pub kept_take : (job : JobView) (s : ℕ) (puts : List Put) (i : ℕ) (p : Put) → i < length puts → p ≡ get_or puts i p → kept job s (take (i + 1) puts) ≡ kept job s (take i puts) ++ kept job s (p ∷ [])
+kept_take job s puts i p lt is =
+    ap (kept job s) (take_more puts i p lt ∙ ap (λ z. take i puts ++ z ∷ []) (sym is)) ∙ filter-append (λ (q : Put). is_effective job.plan.steps s q.0) (take i puts) (p ∷ [])
+
+pub values_take : (job : JobView) (s : ℕ) (puts : List Put) (i : ℕ) (p : Put) → i < length puts → p ≡ get_or puts i p → values_kept job s (take i puts) ++ values_kept job s (p ∷ []) ≡ values_kept job s (take (i + 1) puts)
+values_take job s puts i p lt is = sym (ap (map value_of) (kept_take job s puts i p lt is) ∙ map-append value_of (kept job s (take i puts)) (kept job s (p ∷ [])))
 
 same_or : (a b : ℕ) → (a ≡ b) ⊎ (a ≢ b)
 same_or a b = same_at (a == b) refl where
@@ -30,80 +40,23 @@ same_or a b = same_at (a == b) refl where
   same_at true q = inl (eqb-true a b q)
   same_at false q = inr (eqb-false a b q)
 
-count_back : (q : Put → Bool) (ps : List Put) → count_by q (reverse ps) ≡ count_by q ps
-count_back q [] = refl
-count_back q (p ∷ ps) =
-    let one : Put → ℕ = λ x. cond (q x) 1 0 in
-    let a : sum_by one (reverse ps ++ p ∷ []) ≡ sum_by one (reverse ps) + sum_by one (p ∷ []) = sum_by-append one (reverse ps) (p ∷ []) in
-    let b : sum_by one (p ∷ ps) ≡ one p + sum_by one ps = sum_by-cons one p ps in
-    let c : sum_by one (p ∷ []) ≡ one p + sum_by one [] = sum_by-cons one p [] in
-    let r : sum_by one (reverse ps) ≡ sum_by one ps = count_back q ps in
-    ap (sum_by one) (reverse_cons p ps) ∙ a ∙ ap (λ n. n + sum_by one (p ∷ [])) r ∙ ap (λ n. sum_by one ps + n) c ∙ plus_turn (sum_by one ps) (one p) ∙ sym b
+-- room for some puts and for others is room for all
+pub more_room : (old mid new : ℕ) (before between after : Stored) (ps qs : List Put) → HasMore old mid before between ps → HasMore mid new between after qs → HasMore old new before after (ps ++ qs)
+more_room old mid new before between after ps qs first then = record {
+  events = (let a : mid ≡ old + length ps = first.events in let b : new ≡ mid + length qs = then.events in let c : length (ps ++ qs) ≡ length ps + length qs = length-append ps qs in omega (arith, a, b, c));
+  spares = λ item.
+      let one : Put → ℕ = λ x. cond (x.0 == item) 1 0 in
+      let a : sum_by one (ps ++ qs) ≡ sum_by one ps + sum_by one qs = sum_by-append one ps qs in
+      let b : spare_of between item ≡ spare_of before item + sum_by one ps = first.spares item in
+      let c : spare_of after item ≡ spare_of between item + sum_by one qs = then.spares item in
+      omega (arith, a, b, c);
+}
 
-all_back : (P : Put → Type 0) (ps : List Put) → All P ps → All P (reverse ps)
-all_back P [] all = All-nil P
-all_back P (p ∷ ps) all = subst (All P) (sym (reverse_cons p ps)) (All-append P (reverse ps) (p ∷ []) (all_back P ps (All-tail P p ps all)) (All-cons P p [] (All-head P p ps all) (All-nil P)))
-
--- room for puts in one order is room for them in the other
-pub more_back : {E : Type 0} (r : Result (Unit {0}) E) (old new : ℕ) (before after : Stored) (twins lent : List Twin) (ps : List Put) → lent ≡ twins → reverse (map put_of twins) ≡ ps
-    → OnOk r (HasMore old new before after (map put_of lent)) → OnOk r (HasMore old new before after ps)
-more_back (Ok u) old new before after twins lent ps same is more =
-    let turned : reverse (map put_of lent) ≡ ps = ap (λ z. reverse (map put_of z)) same ∙ is in
-    subst (HasMore old new before after) turned (record {
-      events = more.events ∙ ap (λ n. old + n) (sym (length-reverse (map put_of lent)));
-      spares = λ item. more.spares item ∙ ap (λ n. spare_of before item + n) (sym (count_back (λ p. p.0 == item) (map put_of lent)));
-    })
-more_back (Err e) old new before after twins lent ps same is more = tt
-
-pub keyed_back : {E : Type 0} (r : Result (Unit {0}) E) (names : Names) (twins lent : List Twin) (ps : List Put) → lent ≡ twins → reverse (map put_of twins) ≡ ps
-    → OnOk r (All (IsKeyed names) (map put_of lent)) → OnOk r (All (IsKeyed names) ps)
-keyed_back (Ok u) names twins lent ps same is all = subst (All (IsKeyed names)) (ap (λ z. reverse (map put_of z)) same ∙ is) (all_back (IsKeyed names) (map put_of lent) all)
-keyed_back (Err e) names twins lent ps same is all = tt
-
-map_more : (twins : List Twin) (i : ℕ) (t : Twin) → i < length twins → t ≡ get_or twins i t → map put_of (take (i + 1) twins) ≡ map put_of (take i twins) ++ put_of t ∷ []
-map_more twins i t lt is = ap (map put_of) (take_more twins i t lt ∙ ap (λ z. take i twins ++ z ∷ []) (sym is)) ∙ map-append put_of (take i twins) (t ∷ [])
-
-turn_at : (before between after : Stored) (t : Twin) (ps : List Put) (item : ℕ) (b : Bool) → (t.item == item) ≡ b → spare_of between item ≡ spare_of before item + count_by (λ p. p.0 == item) ps
-    → spare_of after t.item ≡ spare_of between t.item + 1 → SameElsewhere t.item between after → spare_of after item ≡ spare_of before item + count_by (λ p. p.0 == item) (ps ++ put_of t ∷ [])
-turn_at before between after t ps item true q more spare others =
-    let e : t.item ≡ item = eqb-true t.item item q in
-    let one : Put → ℕ = λ x. cond (x.0 == item) 1 0 in
-    let a : sum_by one (ps ++ put_of t ∷ []) ≡ sum_by one ps + sum_by one (put_of t ∷ []) = sum_by-append one ps (put_of t ∷ []) in
-    let c : sum_by one (put_of t ∷ []) ≡ 1 = sum_by-cons one (put_of t) [] ∙ ap (λ b. cond b 1 0 + 0) q in
-    let s : spare_of after item ≡ spare_of between item + 1 = subst (λ n. spare_of after n ≡ spare_of between n + 1) e spare in
-    omega (arith, a, c, s, more)
-turn_at before between after t ps item false q more spare others =
-    let one : Put → ℕ = λ x. cond (x.0 == item) 1 0 in
-    let a : sum_by one (ps ++ put_of t ∷ []) ≡ sum_by one ps + sum_by one (put_of t ∷ []) = sum_by-append one ps (put_of t ∷ []) in
-    let c : sum_by one (put_of t ∷ []) ≡ 0 = sum_by-cons one (put_of t) [] ∙ ap (λ b. cond b 1 0 + 0) q in
-    let s : spare_of after item ≡ spare_of between item = ap (λ (x : Held). x.spare) (others.1 item (λ r. eqb-false t.item item q (sym r))) in
-    omega (arith, a, c, s, more)
-
--- room for one put more
-pub room_turn : (old mid new : ℕ) (before between after : Stored) (twins : List Twin) (i : ℕ) (t : Twin) → i < length twins → t ≡ get_or twins i t
-    → HasMore old mid before between (map put_of (take i twins)) → new ≡ mid + 1 → spare_of after t.item ≡ spare_of between t.item + 1 → SameElsewhere t.item between after
-    → HasMore old new before after (map put_of (take (i + 1) twins))
-room_turn old mid new before between after twins i t lt is more events spare others =
-    let ps : List Put = map put_of (take i twins) in
-    subst (HasMore old new before after) (sym (map_more twins i t lt is)) (record {
-      events = (let a : mid ≡ old + length ps = more.events in let b : length (ps ++ put_of t ∷ []) ≡ length ps + 1 = length_push ps (put_of t) in omega (arith, a, b, events));
-      spares = λ item. turn_at before between after t ps item (t.item == item) refl (more.spares item) spare others;
-    })
-
-pub keyed_turn : (names : Names) (twins : List Twin) (i : ℕ) (t : Twin) → i < length twins → t ≡ get_or twins i t → All (IsKeyed names) (map put_of (take i twins)) → IsKeyed names (put_of t) → All (IsKeyed names) (map put_of (take (i + 1) twins))
-keyed_turn names twins i t lt is all key = subst (All (IsKeyed names)) (sym (map_more twins i t lt is)) (All-push (IsKeyed names) (map put_of (take i twins)) (put_of t) all key)
-
-pub roomier_turn : (before between after : Stored) (item : ℕ) → IsRoomier before between → values_of after item ≡ values_of between item → spare_of after item ≡ spare_of between item + 1 → SameElsewhere item between after → IsRoomier before after
-roomier_turn before between after item more values spare others = record {
-  names = others.0 ∙ more.names;
-  values = λ i. elim (same_or item i) [
-    | inl e ↦ subst (λ n. values_of after n ≡ values_of between n) e values ∙ more.values i
-    | inr ne ↦ ap (λ (x : Held). x.values) (others.1 i (λ q. ne (sym q))) ∙ more.values i
-  ];
-  spares = λ i. let m : spare_of before i ≤ spare_of between i = more.spares i in elim (same_or item i) [
-    | inl e ↦ let s : spare_of after i ≡ spare_of between i + 1 = subst (λ n. spare_of after n ≡ spare_of between n + 1) e spare in omega (arith, m, s)
-    | inr ne ↦ let s : spare_of after i ≡ spare_of between i = ap (λ (x : Held). x.spare) (others.1 i (λ q. ne (sym q))) in omega (arith, m, s)
-  ];
+pub roomier_more : (before between after : Stored) → IsRoomier before between → IsRoomier between after → IsRoomier before after
+roomier_more before between after first then = record {
+  names = then.names ∙ first.names;
+  values = λ i. then.values i ∙ first.values i;
+  spares = λ i. let a : spare_of before i ≤ spare_of between i = first.spares i in let b : spare_of between i ≤ spare_of after i = then.spares i in omega (arith, a, b);
 }
 
 pub roomier_none : (store : Stored) → IsRoomier store store
@@ -111,3 +64,44 @@ roomier_none store = record { names = refl; values = λ i. refl; spares = λ i. 
 
 pub more_none : (n : ℕ) (store : Stored) → HasMore n n store store []
 more_none n store = record { events = omega arith; spares = λ i. omega arith }
+
+-- one put that isn't kept, and one that is
+pub none_kept : (job : JobView) (s : ℕ) (p : Put) → is_effective job.plan.steps s p.0 ≡ false → kept job s (p ∷ []) ≡ []
+none_kept job s p not = ap (λ b. cond b (p ∷ []) []) not
+
+pub one_kept : (job : JobView) (s : ℕ) (p : Put) → is_effective job.plan.steps s p.0 ≡ true → kept job s (p ∷ []) ≡ p ∷ []
+one_kept job s p is = ap (λ b. cond b (p ∷ []) []) is
+
+-- room for one put more
+pub roomier_one : (before after : Stored) (item : ℕ) → values_of after item ≡ values_of before item → spare_of after item ≡ spare_of before item + 1 → SameElsewhere item before after → IsRoomier before after
+roomier_one before after item values spare others = record {
+  names = others.0;
+  values = λ i. elim (same_or item i) [
+    | inl e ↦ subst (λ n. values_of after n ≡ values_of before n) e values
+    | inr ne ↦ ap (λ (x : Held). x.values) (others.1 i (λ q. ne (sym q)))
+  ];
+  spares = λ i. elim (same_or item i) [
+    | inl e ↦ let s : spare_of after i ≡ spare_of before i + 1 = subst (λ n. spare_of after n ≡ spare_of before n + 1) e spare in omega (arith, s)
+    | inr ne ↦ let s : spare_of after i ≡ spare_of before i = ap (λ (x : Held). x.spare) (others.1 i (λ q. ne (sym q))) in omega (arith, s)
+  ];
+}
+
+one_at : (before after : Stored) (p : Put) (item : ℕ) (b : Bool) → (p.0 == item) ≡ b → spare_of after p.0 ≡ spare_of before p.0 + 1 → SameElsewhere p.0 before after
+    → spare_of after item ≡ spare_of before item + count_by (λ q. q.0 == item) (p ∷ [])
+one_at before after p item true q spare others =
+    let e : p.0 ≡ item = eqb-true p.0 item q in
+    let one : Put → ℕ = λ x. cond (x.0 == item) 1 0 in
+    let c : sum_by one (p ∷ []) ≡ 1 = sum_by-cons one p [] ∙ ap (λ b. cond b 1 0 + 0) q in
+    let s : spare_of after item ≡ spare_of before item + 1 = subst (λ n. spare_of after n ≡ spare_of before n + 1) e spare in
+    omega (arith, c, s)
+one_at before after p item false q spare others =
+    let one : Put → ℕ = λ x. cond (x.0 == item) 1 0 in
+    let c : sum_by one (p ∷ []) ≡ 0 = sum_by-cons one p [] ∙ ap (λ b. cond b 1 0 + 0) q in
+    let s : spare_of after item ≡ spare_of before item = ap (λ (x : Held). x.spare) (others.1 item (λ r. eqb-false p.0 item q (sym r))) in
+    omega (arith, c, s)
+
+pub more_one : (old new : ℕ) (before after : Stored) (p : Put) → new ≡ old + 1 → spare_of after p.0 ≡ spare_of before p.0 + 1 → SameElsewhere p.0 before after → HasMore old new before after (p ∷ [])
+more_one old new before after p events spare others = record {
+  events = events;
+  spares = λ item. one_at before after p item (p.0 == item) refl spare others;
+}

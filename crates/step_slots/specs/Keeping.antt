@@ -1,24 +1,28 @@
 -- What is kept of an outcome. This project's own.
-use Rattle.std.specs.Prelude.{◌≡◌, ℕ, ◌+◌, Some}
+use Rattle.std.specs.Prelude.{◌≡◌, ℕ, ◌+◌, List, [], map}
 use Rattle.std.specs.List.{All}
-use Rattle.item_types.specs.declared.decl.Names.{Names}
+use Rattle.item_types.specs.declared.value.Value.{Value}
 use Rattle.item_store.specs.Kept.{Kept as Stored}
-use Rattle.step_slots.specs.declared.kept.Kept.{Kept}
-use Rattle.step_slots.specs.declared.kept.Kept.TheVariants.{Done, Fails}
-use Rattle.step_slots.specs.declared.mark.Mark.TheVariants.{Putting, Failing}
-use Rattle.step_slots.specs.declared.slot.Slot.{Slot}
+use Rattle.step_state.specs.declared.outcome.Outcome.{Outcome}
+use Rattle.step_state.specs.declared.outcome.Outcome.TheVariants.{Done, Fails}
+use Rattle.build_history.specs.Jobs.{JobView}
+use Rattle.build_history.specs.Scripts.{kept}
 use Rattle.step_slots.specs.Rooms.{IsKeyed, HasMore}
 
--- the slot with it
-abbrev pub with_kept : Slot → Kept → Slot
-with_kept t (Done left calls) = record t { mark = Putting; made = 0; left = left; calls = calls }
-with_kept t (Fails r) = record t { mark = Failing; reason = Some r }
+-- the values of the puts that are kept
+abbrev pub values_kept : JobView → ℕ → List (ℕ × Value) → List Value
+values_kept job s puts = map (λ (p : ℕ × Value). p.1) (kept job s puts)
 
--- there is room for its puts more, or for its failure
-abbrev pub IsRoomFor : Kept → ℕ → ℕ → Stored → Stored → Type 0
-IsRoomFor (Done left calls) old new before after = HasMore old new before after left
-IsRoomFor (Fails r) old new before after = (new ≡ old + 1) × (after ≡ before)
+abbrev pub seconds_of : JobView → ℕ → Outcome → List Value
+seconds_of job s (Done puts calls) = values_kept job s puts
+seconds_of job s (Fails r) = []
 
-abbrev pub HasKeys : Names → Kept → Type 0
-HasKeys names (Done left calls) = All (IsKeyed names) left
-HasKeys names (Fails r) = Unit {0}
+-- there is room for the puts that are kept, or for the failure
+abbrev pub IsRoomFor : JobView → ℕ → Outcome → ℕ → ℕ → Stored → Stored → Type 0
+IsRoomFor job s (Done puts calls) old new before after = HasMore old new before after (kept job s puts)
+IsRoomFor job s (Fails r) old new before after = (new ≡ old + 1) × (after ≡ before)
+
+-- the items can carry the values of the puts that are kept
+abbrev pub HasKeys : JobView → ℕ → Outcome → Type 0
+HasKeys job s (Done puts calls) = All (IsKeyed job.names) (kept job s puts)
+HasKeys job s (Fails r) = Unit {0}

@@ -13,3 +13,6 @@ put_of t = (t.item, t.value)
 -- both values are equal
 abbrev pub IsTwin : Twin → Type 0
 IsTwin t = t.again ≡ t.value
+
+abbrev pub value_of : Put → Value
+value_of p = p.1

@@ -1,78 +1,65 @@
-ghost use Rattle.std.specs.Prelude.{◌≡◌, ◌≤◌, ◌+◌, ℕ, IfOk, OnOk};
-ghost use Rattle.step_slots.specs.declared.slot.Slot.{Slot as OneSlot};
+ghost use Rattle.std.specs.Prelude.{◌≡◌, ◌≤◌, IfOk, OnOk};
 ghost use Rattle.step_slots.specs.Built.{settled};
-ghost use Rattle.step_slots.specs.Keeping.{with_kept, IsRoomFor, HasKeys};
+ghost use Rattle.step_slots.specs.Keeping.{seconds_of, IsRoomFor, HasKeys};
 ghost use Rattle.step_slots.specs.Rooms.{IsRoomier};
 
 use crate::mark::Mark;
-use crate::puts::Puts;
+use crate::puts::{Puts, make_room, seconds};
 use crate::slot::Slot;
 use build_history::{History, Job};
 use item_store::Store;
-use item_types::{Memory, Names, Same, Seq};
-use recorder_proxy::Call;
+use item_types::{Memory, Seq, Value};
 use std::alloc::Global;
-use step_eval::{Outcome, Reason};
+use step_eval::Outcome;
 
-/// What is kept of an outcome: the puts that the step effectively produces and the calls, or the
-/// reason.
-#[derive(Drop)]
-pub enum Kept {
-    Done { left: Puts, calls: Seq<Call> },
-    Fails(Reason),
-}
-
-/// What is kept of an outcome of the step.
-///
-/// # Errors
-/// `Memory` for want of memory.
-pub fn keep(alloc: Global, job: &Job, step: u32, outcome: &Outcome) -> Result<Kept, Memory>
-    ensures { IfOk result (λ k. (t : OneSlot) → with_kept t k ≡ settled job.now step t outcome.now) }
-{
-    match outcome {
-        Outcome::Done { puts, calls } => Ok(Kept::Done {
-            left: Puts::kept(alloc, job, step, puts.as_slice())?,
-            calls: calls.try_copy(alloc)?,
-        }),
-        Outcome::Fails(reason) => Ok(Kept::Fails(reason.try_copy(alloc)?)),
-    }
-}
-
-/// Makes room for the events that follow, in the history and in the store.
+/// Makes ready for what follows an outcome of the step: a second value of each put that the step
+/// effectively produces, and room for the events in the history and in the store.
 ///
 /// # Errors
 /// `Memory` for want of memory: there is no less room than before.
-pub fn make_room(
-    kept: &Kept,
+pub fn prepare(
+    alloc: Global,
+    job: &Job,
+    step: u32,
+    outcome: &Outcome,
     history: &mut History,
     store: &mut Store,
-    names: &Names,
-) -> Result<(), Memory>
-    requires { store.old.names ≡ names.now }
+) -> Result<Seq<Value>, Memory>
+    requires { store.old.names ≡ job.now.names }
     ensures events { history.new.events ≡ history.old.events }
     ensures spare { history.old.spare ≤ history.new.spare }
     ensures store { IsRoomier store.old store.new }
-    ensures ok { OnOk result (IsRoomFor kept.now history.old.spare history.new.spare store.old store.new) }
-    ensures keyed { OnOk result (HasKeys names.now kept.now) }
+    ensures seconds { IfOk result (λ again. again ≡ seconds_of job.now step outcome.now) }
+    ensures room { OnOk result (IsRoomFor job.now step outcome.now history.old.spare history.new.spare store.old store.new) }
+    ensures keyed { OnOk result (HasKeys job.now step outcome.now) }
 {
-    match kept {
-        Kept::Done { left, calls: _ } => left.make_room(history, store, names),
-        Kept::Fails(_) => history.reserve(1),
+    match outcome {
+        Outcome::Done { puts, calls: _ } => {
+            make_room(job, step, puts.as_slice(), history, store)?;
+            seconds(alloc, job, step, puts.as_slice())
+        }
+        Outcome::Fails(_) => {
+            history.reserve(1)?;
+            Ok(Seq::new(alloc))
+        }
     }
 }
 
-/// Puts what is kept of an outcome into the slot.
-pub fn settle(slot: &mut Slot, kept: Kept)
-    ensures { slot.new ≡ with_kept slot.old kept }
+/// Puts what is kept of an outcome of the step into its slot: the puts that the step effectively
+/// produces, of each of which there is a second value, and the calls, or the reason. It takes no
+/// memory.
+pub fn settle(slot: &mut Slot, job: &Job, step: u32, outcome: Outcome, again: Seq<Value>)
+    requires { again ≡ seconds_of job.now step outcome }
+    ensures { slot.new ≡ settled job.now step slot.old outcome }
 {
-    match kept {
-        Kept::Done { left, calls } => {
+    match outcome {
+        Outcome::Done { puts, calls } => {
             slot.mark = Mark::Putting;
             slot.made = 0;
-            slot.left = left;
+            slot.left = Puts::kept(job, step, puts, again);
             slot.calls = calls;
         }
-        Kept::Fails(reason) => {
+        Outcome::Fails(reason) => {
             slot.mark = Mark::Failing;
             slot.reason = Some(reason);
         }

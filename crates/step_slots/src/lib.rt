@@ -10,7 +10,7 @@ mod parts;
 mod puts;
 mod slot;
 
-pub use kept::{Kept, keep, make_room, settle};
+pub use kept::{prepare, settle};
 pub use mark::{Halt, Mark, Stage};
 pub use parts::{mark_after, open_slots, release, released_of};
 pub use puts::{Puts, Twin};

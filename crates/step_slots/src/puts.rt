@@ -1,9 +1,10 @@
-ghost use Rattle.std.specs.Prelude.{◌≡◌, ◌≤◌, ◌<◌, ℕ, List, [], ◌∷◌, ◌++◌, length, map, reverse, IfOk, OnOk, IfSome, IfNone, IsTrue};
+ghost use Rattle.std.specs.Prelude.{◌≡◌, ◌≤◌, ◌<◌, [], ◌∷◌, ◌++◌, length, IfOk, OnOk, IfSome, IfNone, IsTrue};
 ghost use Rattle.build_history.specs.Scripts.{kept};
 ghost use Rattle.std.specs.List.{All};
 ghost use Rattle.value_order.specs.Found.{kind_of, HasKey};
+ghost use Rattle.step_slots.specs.Keeping.{values_kept};
 ghost use Rattle.step_slots.specs.Rooms.{IsKeyed, IsRoomier, HasMore};
-ghost use Rattle.step_slots.specs.Twins.{put_of, IsTwin};
+ghost use Rattle.step_slots.specs.Twins.{IsTwin};
 
 use build_history::{History, Job};
 use item_store::Store;
@@ -11,7 +12,8 @@ use item_types::{ItemKind, Memory, Names, Seq, Value};
 use std::alloc::Global;
 use std::marker::Model;
 
-/// A put that is made twice, for the history and for the store, so that it takes no memory later.
+/// A put of which there are two values, for the history and for the store, so that it takes no
+/// memory.
 #[derive(Drop)]
 pub struct Twin {
     pub item: u32,
@@ -19,26 +21,27 @@ pub struct Twin {
     pub again: Value,
 }
 
-/// The puts of a step that aren't in the history yet, the next one last.
+/// The puts of a step that aren't in the history yet, the next one last, and a second value of
+/// each.
 #[derive(Drop)]
 pub struct Puts {
-    twins: Vec<Twin>,
+    puts: Vec<(u32, Value)>,
+    again: Vec<Value>,
 }
 
 impl Model for Puts {
-    ghost use Rattle.std.specs.Prelude.{List, map, reverse};
-    ghost use Rattle.std.specs.List.{All};
+    ghost use Rattle.std.specs.Prelude.{◌≡◌, List, map, reverse};
     ghost use Rattle.item_types.specs.contracts.value.Value as value;
     ghost use Rattle.std.specs.Coded.{codes};
-    ghost use Rattle.step_slots.specs.Twins.{Put, put_of, IsTwin};
+    ghost use Rattle.step_slots.specs.Twins.{Put, value_of};
 
     ghost Value = { List Put };
 
     ghost coded = { Prim.hlevel (codes, value.the_row.coded) };
 
-    ghost view = { λ p. reverse (map put_of p.twins.items) };
+    ghost view = { λ p. reverse p.puts.items };
 
-    ghost invariant = { λ p. All IsTwin p.twins.items };
+    ghost invariant = { λ p. p.again.items ≡ map value_of p.puts.items };
 }
 
 impl Puts {
@@ -47,53 +50,30 @@ impl Puts {
         ensures { result ≡ [] }
     {
         Puts {
-            twins: Vec::new(alloc),
+            puts: Vec::new(alloc),
+            again: Vec::new(alloc),
         }
     }
 
-    /// Those of the puts whose item the step effectively produces.
-    ///
-    /// # Errors
-    /// `Memory` for want of memory.
-    pub fn kept(alloc: Global, job: &Job, step: u32, puts: &[(u32, Value)]) -> Result<Puts, Memory>
-        ensures { IfOk result (λ p. p ≡ kept job.now step puts.now) }
+    /// Those of the puts whose item the step effectively produces, of each of which there is a
+    /// second value. It takes no memory.
+    pub fn kept(job: &Job, step: u32, puts: Seq<(u32, Value)>, again: Seq<Value>) -> Puts
+        requires { again ≡ values_kept job.now step puts }
+        ensures { result ≡ kept job.now step puts }
     {
-        let mut twins = Seq::new(alloc);
-        for put in puts {
-            if job.keeps(step, put.0) {
-                twins.push(twin_of(alloc, put)?)?;
-            }
-        }
-        let mut twins = twins.into_vec();
-        twins.reverse();
-        Ok(Puts { twins })
+        let mut puts = puts.into_vec();
+        puts.retain(|put| job.keeps(step, put.0));
+        puts.reverse();
+        let mut again = again.into_vec();
+        again.reverse();
+        Puts { puts, again }
     }
 
     /// How many puts there are.
     pub fn len(&self) -> usize
         ensures { result ≡ length self.now }
     {
-        self.twins.len()
-    }
-
-    /// Makes room for the puts, in the history and in the store.
-    ///
-    /// # Errors
-    /// `Memory` for want of memory: there is no less room than before.
-    pub fn make_room(
-        &self,
-        history: &mut History,
-        store: &mut Store,
-        names: &Names,
-    ) -> Result<(), Memory>
-        requires { store.old.names ≡ names.now }
-        ensures events { history.new.events ≡ history.old.events }
-        ensures spare { history.old.spare ≤ history.new.spare }
-        ensures store { IsRoomier store.old store.new }
-        ensures ok { OnOk result (HasMore history.old.spare history.new.spare store.old store.new self.now) }
-        ensures keyed { OnOk result (All (IsKeyed names.now) self.now) }
-    {
-        make_room_for(self.twins.as_slice(), history, store, names)
+        self.puts.len()
     }
 
     /// Takes the next put out. It takes no memory.
@@ -102,42 +82,96 @@ impl Puts {
         ensures twin { IfSome result IsTwin }
         ensures none { IfNone result (self.old ≡ []) }
     {
-        self.twins.pop()
+        match (self.puts.pop(), self.again.pop()) {
+            (Some((item, value)), Some(again)) => Some(Twin { item, value, again }),
+            _ => None,
+        }
     }
 }
 
-fn twin_of(alloc: Global, put: &(u32, Value)) -> Result<Twin, Memory>
-    ensures put { IfOk result (λ t. put_of t ≡ put.now) }
-    ensures twin { IfOk result IsTwin }
+/// A second value of each of the puts whose item the step effectively produces.
+///
+/// # Errors
+/// `Memory` for want of memory.
+pub(crate) fn seconds(
+    alloc: Global,
+    job: &Job,
+    step: u32,
+    puts: &[(u32, Value)],
+) -> Result<Seq<Value>, Memory>
+    ensures { IfOk result (λ again. again ≡ values_kept job.now step puts.now) }
 {
-    Ok(Twin {
-        item: put.0,
-        value: put.1.try_copy(alloc)?,
-        again: put.1.try_copy(alloc)?,
-    })
+    let mut again = Seq::with_capacity(alloc, puts.len())?;
+    for put in puts {
+        push_second(alloc, job, step, put, &mut again)?;
+    }
+    Ok(again)
 }
 
-fn make_room_for(
-    twins: &[Twin],
+/// Appends a second value of the put, where the step effectively produces its item.
+fn push_second(
+    alloc: Global,
+    job: &Job,
+    step: u32,
+    put: &(u32, Value),
+    again: &mut Seq<Value>,
+) -> Result<(), Memory>
+    ensures { OnOk result (again.new ≡ again.old ++ values_kept job.now step (put.now ∷ [])) }
+{
+    if !job.keeps(step, put.0) {
+        return Ok(());
+    }
+    again.push(put.1.try_copy(alloc)?)
+}
+
+/// Makes room, in the history and in the store, for the puts whose item the step effectively
+/// produces.
+///
+/// # Errors
+/// `Memory` for want of memory: there is no less room than before.
+pub(crate) fn make_room(
+    job: &Job,
+    step: u32,
+    puts: &[(u32, Value)],
     history: &mut History,
     store: &mut Store,
-    names: &Names,
 ) -> Result<(), Memory>
-    requires { store.old.names ≡ names.now }
+    requires { store.old.names ≡ job.now.names }
     ensures events { history.new.events ≡ history.old.events }
     ensures spare { history.old.spare ≤ history.new.spare }
     ensures store { IsRoomier store.old store.new }
-    ensures ok { OnOk result (HasMore history.old.spare history.new.spare store.old store.new (map put_of twins.now)) }
-    ensures keyed { OnOk result (All (IsKeyed names.now) (map put_of twins.now)) }
+    ensures ok { OnOk result (HasMore history.old.spare history.new.spare store.old store.new (kept job.now step puts.now)) }
+    ensures keyed { OnOk result (All (IsKeyed job.now.names) (kept job.now step puts.now)) }
 {
-    for twin in twins {
-        if !is_storable(names, twin.item, &twin.value) {
-            return Err(Memory);
-        }
-        history.reserve(1)?;
-        store.reserve(twin.item, 1)?;
+    for put in puts {
+        make_room_for(job, step, put, history, store)?;
     }
     Ok(())
+}
+
+/// The same for one put.
+fn make_room_for(
+    job: &Job,
+    step: u32,
+    put: &(u32, Value),
+    history: &mut History,
+    store: &mut Store,
+) -> Result<(), Memory>
+    requires { store.old.names ≡ job.now.names }
+    ensures events { history.new.events ≡ history.old.events }
+    ensures spare { history.old.spare ≤ history.new.spare }
+    ensures store { IsRoomier store.old store.new }
+    ensures ok { OnOk result (HasMore history.old.spare history.new.spare store.old store.new (kept job.now step (put.now ∷ []))) }
+    ensures keyed { OnOk result (All (IsKeyed job.now.names) (kept job.now step (put.now ∷ []))) }
+{
+    if !job.keeps(step, put.0) {
+        return Ok(());
+    }
+    if !is_storable(job.names(), put.0, &put.1) {
+        return Err(Memory);
+    }
+    history.reserve(1)?;
+    store.reserve(put.0, 1)
 }
 
 /// Whether a store takes the value for the item. What an evaluation puts, a store takes.
