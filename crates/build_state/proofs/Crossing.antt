@@ -1,7 +1,7 @@
 -- A job may be shared by threads, and a build state may go to another one: their trees, texts and
 -- numbers name no thread.
 use denote.Param.Send.{IsSend, IsSync, sendable, view_send}
-use denote.Param.SendFields.{as_row_sync, declared_sync}
+use denote.Param.SendFields.{as_row_send, as_row_sync, declared_send, declared_sync}
 use denote.RattleType.{RattleType}
 use denote.Ref.{NamedLft}
 use denote.Struct.Declared.{row}
@@ -37,7 +37,6 @@ use Rattle.build_history.specs.contracts.history.History as history
 use Rattle.build_history.specs.contracts.job.Job as job
 use Rattle.step_slots.proofs.mark.Mark.TheSendSync as mark
 use Rattle.step_slots.specs.contracts.puts.Puts as puts
-use Rattle.step_slots.specs.contracts.puts.Twin as twin
 use Rattle.step_slots.specs.contracts.slot.Slot as slot
 use Rattle.build_state.specs.contracts.state.BuildState as state
 use Rattle.build_state.specs.contracts.state.BuildState.TheInside as inside
@@ -91,11 +90,11 @@ pile-send = search (sendable, crosses, value-send) depth 12 fits 4000
 store-send : IsSend store.the_row
 store-send = search (sendable, crosses, names.the_field_send, pile-send) depth 12 fits 4000
 
-twin-send : IsSend (twin.the_field).row
-twin-send = search (sendable, value-send) depth 12 fits 4000
+pair-send : (A B : RattleType) → IsSend A → IsSend B → IsSend (Tuple (A ∷ B ∷ []))
+pair-send A B a b = declared_send (tuple_type (A ∷ B ∷ [])) (as_row_send (row_field A) a, (as_row_send (row_field B) b, tt))
 
 puts-send : IsSend puts.the_row
-puts-send = search (sendable, crosses, twin-send) depth 12 fits 4000
+puts-send = search (sendable, crosses, value-send, pair-send) depth 14 fits 8000
 
 slot-send : IsSend (slot.the_field).row
 slot-send = search (sendable, mark.the_field_send, inputs-send, puts-send, seq.the_send, call-send, reason.the_send) depth 12 fits 4000

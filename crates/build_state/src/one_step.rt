@@ -1,5 +1,5 @@
 use crate::state::BuildState;
-use build_history::Work;
+use build_history::evaluate;
 use item_types::Memory;
 use std::alloc::Global;
 use step_slots::Mark;
@@ -53,9 +53,11 @@ impl<'j> BuildState<'j> {
         ensures ok { OnOk result (self.new ≡ evaluated self.old step (meaning_at self.old.job step (slot_at self.old.slots step).inputs.lists)) }
         ensures err { OnErr result (self.new ≡ self.old) }
     {
-        let inputs = self.inputs_copy(alloc, step)?;
-        let work = Work::make(alloc, self.job(), step, inputs)?;
-        self.keep_outcome(alloc, &work)
+        let outcome = evaluate(alloc, self.job, step, &self.slots[step as usize].inputs)?;
+        match self.keep_outcome(alloc, step, outcome) {
+            Ok(()) => Ok(()),
+            Err(_) => Err(Memory),
+        }
     }
 
     /// Does the puts and the end, or the failure, of a step whose outcome is kept.

@@ -5,11 +5,10 @@ use item_types::{Memory, Same, Seq, copy_values};
 use std::alloc::Global;
 use std::marker::Model;
 use std::mem;
-use step_eval::Inputs;
+use step_eval::{Inputs, Outcome};
 use step_set::StepSet;
 use step_slots::{
-    Halt, Mark, Slot, Stage, Twin, keep, make_room, mark_after, open_slots, release, released_of,
-    settle,
+    Halt, Mark, Slot, Stage, Twin, mark_after, open_slots, prepare, release, released_of, settle,
 };
 
 /// A work that wasn't taken.
@@ -54,7 +53,9 @@ impl<'j> Model for BuildState<'j> {
 impl<'j> BuildState<'j> {
     ghost use Rattle.std.specs.Prelude.{◌≡◌, ◌≢◌, ◌<◌, ◌+◌, ◌⊎◌, ◌∷◌, ◌++◌, [], ℕ, List, false, true, length, OnOk, OnErr, IfOk, IfErr, IfSome, IfNone, IsTrue, ◌↔◌};
     ghost use Rattle.build_history.specs.Runs.{IsOneThreadRun};
+    ghost use Rattle.build_history.specs.Jobs.{meaning_at};
     ghost use Rattle.build_history.specs.Works.{IsMeant};
+    ghost use Rattle.step_eval.specs.BoundedOutcome.{HasBoundedValues};
     ghost use Rattle.step_slots.specs.Built.{Built, mark_at, is_halted, moved, started, took, put_one, failed_with, evaluated, HasEnded, Fits};
     ghost use Rattle.build_state.specs.Backs.{IsBack};
     ghost use Rattle.step_slots.specs.Marks.{slot_at};
@@ -382,10 +383,7 @@ impl<'j> BuildState<'j> {
         if !self.fits(&work) {
             return Err(HandIn::Foreign(work));
         }
-        match self.keep_outcome(alloc, &work) {
-            Ok(()) => Ok(()),
-            Err(Memory) => Err(HandIn::Memory(work)),
-        }
+        self.take_work(alloc, work)
     }
 
     /// The same for a work on this job, of which the inputs alone have to be compared.
@@ -404,28 +402,58 @@ impl<'j> BuildState<'j> {
         if !self.fits_own(&work) {
             return Err(HandIn::Foreign(work));
         }
-        match self.keep_outcome(alloc, &work) {
+        self.take_work(alloc, work)
+    }
+
+    /// Keeps the outcome of a work that fits.
+    ///
+    /// # Errors
+    /// `HandIn::Memory` for want of memory: nothing has changed, and the work comes back.
+    fn take_work<'w>(&mut self, alloc: Global, work: Work<'w>) -> Result<(), HandIn<'w>>
+        requires range { work.step < length self.old.job.plan.steps }
+        requires ready { mark_at self.old work.step ≡ Mark.Ready }
+        requires going { is_halted self.old ≡ false }
+        requires fits { Fits self.old work }
+        ensures ok { OnOk result (self.new ≡ evaluated self.old work.entry.step work.entry.outcome) }
+        ensures same { OnErr result (self.new ≡ self.old) }
+        ensures back { IfErr result (λ e. IsBack self.old work.entry e) }
+    {
+        let (job, step) = (work.job(), work.step());
+        let (inputs, outcome) = work.into_parts();
+        match self.keep_outcome(alloc, step, outcome) {
             Ok(()) => Ok(()),
-            Err(Memory) => Err(HandIn::Memory(work)),
+            Err(outcome) => Err(HandIn::Memory(Work::of(job, step, inputs, outcome))),
         }
     }
 
-    /// Keeps the outcome of a work that fits, and makes room for its events.
+    /// Keeps the outcome of the step, which is what its body means, and makes room for the events
+    /// that follow.
     ///
     /// # Errors
-    /// `Memory` for want of memory: nothing has changed.
-    pub(crate) fn keep_outcome<'w>(&mut self, alloc: Global, work: &Work<'w>) -> Result<(), Memory>
-        requires range { work.now.step < length self.old.job.plan.steps }
-        requires ready { mark_at self.old work.now.step ≡ Mark.Ready }
+    /// The outcome, for want of memory: nothing has changed.
+    pub(crate) fn keep_outcome(
+        &mut self,
+        alloc: Global,
+        step: u32,
+        outcome: Outcome,
+    ) -> Result<(), Outcome>
+        requires range { step < length self.old.job.plan.steps }
+        requires ready { mark_at self.old step ≡ Mark.Ready }
         requires going { is_halted self.old ≡ false }
-        requires fits { Fits self.old work.now }
-        ensures ok { OnOk result (self.new ≡ evaluated self.old work.now.step work.now.outcome) }
-        ensures err { OnErr result (self.new ≡ self.old) }
+        requires meant { outcome ≡ meaning_at self.old.job step (slot_at self.old.slots step).inputs.lists }
+        requires bounded { HasBoundedValues outcome }
+        ensures ok { OnOk result (self.new ≡ evaluated self.old step outcome) }
+        ensures same { OnErr result (self.new ≡ self.old) }
+        ensures back { IfErr result (λ o. o ≡ outcome) }
     {
-        let step = work.step();
-        let kept = keep(alloc, self.job, step, work.outcome())?;
-        make_room(&kept, &mut self.history, &mut self.store, self.job.names())?;
-        settle(&mut self.slots[step as usize], kept);
-        Ok(())
+        let job = self.job;
+        let (history, store) = (&mut self.history, &mut self.store);
+        match prepare(alloc, job, step, &outcome, history, store) {
+            Ok(again) => {
+                settle(&mut self.slots[step as usize], job, step, outcome, again);
+                Ok(())
+            }
+            Err(Memory) => Err(outcome),
+        }
     }
 }
