@@ -78,10 +78,10 @@ returns c =
     let recorders = (given c.in_ok-recorders.recorders _ (recorders-of c.args.prefix.now c.args.before c.args.extension.now) c.in_ok-recorders.ensures) in
     let steps = was-right (steps-of c.args.known.now c.args.prefix.now c.args.extension.now) c.in_ok-own_row.ensures in
     inr (
-      ap (λ (b : Before). Ok b)
-      (same-names c.in_ok-extensions.extensions c.in_ok-items.items c.in_ok-beans.beans c.in_ok-recorders.recorders _ _ _ _
-        (c.in_ok-extensions.ensures ∙ ap (λ (n : List ℕ). c.args.before.extensions ++ n ∷ []) c.as_str-2.ensures) items.1 beans.1 recorders.1)
-      ∙ sym (all-right (name-of c.args.prefix.now c.args.before c.args.extension.now) (items-of c.args.prefix.now c.args.before c.args.extension.now) (beans-of c.args.prefix.now c.args.before c.args.extension.now)
+    ap (λ (b : Before). Ok b)
+    (same-names c.in_ok-extensions.extensions c.in_ok-items.items c.in_ok-beans.beans c.in_ok-recorders.recorders _ _ _ _
+    (c.in_ok-extensions.ensures ∙ ap (λ (n : List ℕ). c.args.before.extensions ++ n ∷ []) c.as_str-2.ensures) items.1 beans.1 recorders.1)
+    ∙ sym (all-right (name-of c.args.prefix.now c.args.before c.args.extension.now) (items-of c.args.prefix.now c.args.before c.args.extension.now) (beans-of c.args.prefix.now c.args.before c.args.extension.now)
     (recorders-of c.args.prefix.now c.args.before c.args.extension.now) (steps-of c.args.known.now c.args.prefix.now c.args.extension.now) (names_with c.args.before c.args.extension.now)
-        (was-right (name-of c.args.prefix.now c.args.before c.args.extension.now) (rw c.as_str.ensures at c.in_ok-fresh_name.ensures)) items.0 beans.0 recorders.0 steps)
+    (was-right (name-of c.args.prefix.now c.args.before c.args.extension.now) (rw c.as_str.ensures at c.in_ok-fresh_name.ensures)) items.0 beans.0 recorders.0 steps)
     )
