@@ -11,6 +11,7 @@ use Rattle.item_types.specs.declared.decl.ItemDecl.{ItemDecl}
 use Rattle.item_types.specs.declared.decl.ItemKind.{ItemKind}
 use Rattle.item_types.specs.declared.decl.ItemKind.TheVariants.{Simple, Multi, Ordered, Empty}
 use Rattle.lang_names.specs.declared.setting.Setting.{Setting}
+pub use Rattle.syntax_tree.specs.Undeclared.{no_number}
 
 pub record Known : Type 0 where
   pub names : Names
@@ -34,10 +35,6 @@ of_decl names (Some d) = record { names = names; consumes = []; produces = []; r
 -- in a method of a recorder
 abbrev pub of_recorder : Names → ℕ → Known
 of_recorder names recorder = of_decl names (slice_get names.recorders recorder)
-
--- the number that stands for a name that isn't there
-abbrev pub no_number : ℕ
-no_number = 4294967295
 
 abbrev pub contains : List (List ℕ) → List ℕ → Bool
 contains [] w = false
