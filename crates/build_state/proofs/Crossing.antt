@@ -13,10 +13,11 @@ use Rattle.std.proofs.Crossing.{crosses}
 use Rattle.item_types.proofs.boxed.Boxed.TheSendSync as boxed
 use Rattle.item_types.proofs.decl.Names.TheSendSync as names
 use Rattle.item_types.proofs.seq.Seq.TheSendSync as seq
+use Rattle.item_types.proofs.shared.Shared.TheSendSync as shared
 use Rattle.item_types.proofs.text.Text.TheSendSync as text
 use Rattle.item_types.proofs.value.NodeId.TheSendSync as node
 use Rattle.item_types.proofs.value.Proxy.TheSendSync as proxy
-use Rattle.item_types.proofs.value.Value.TheLaws.TheKnot.{send-Value}
+use Rattle.item_types.proofs.value.Value.TheLaws.TheKnot.{both_send-Value}
 use Rattle.item_types.specs.contracts.value.Value as value
 use Rattle.chain_builder.proofs.plan.Plan.TheSendSync as plan
 use Rattle.syntax_tree.proofs.tree.Expr.TheLaws.TheKnot.{sync-Expr}
@@ -67,10 +68,12 @@ pub job-sync : IsSync job.the_row
 job-sync = search (sendable, plan.the_sync, names.the_field_sync, seq.the_sync, body-sync) depth 12 fits 4000
 
 -- ---- what a state holds goes to another thread
-ruleset plain = (sendable, text.the_send, node.the_field_send, proxy.the_field_send)
+ruleset plain = (sendable, text.the_send, text.the_sync, node.the_field_send, node.the_field_sync, proxy.the_field_send, proxy.the_field_sync)
 
 value-send : IsSend (value.the_field).row
-value-send = send-Value (search plain) (search plain) (search plain) (search plain) seq.the_send (search plain) (search plain)
+value-send =
+    both_send-Value (search plain) (search plain) (search plain) (search plain) (search plain) (search plain) (search plain) (search plain)
+    shared.the_send shared.the_sync (search plain) (search plain) (search plain) (search plain)
 
 call-send : IsSend (call.the_field).row
 call-send = search (sendable, seq.the_send, value-send) depth 12 fits 4000

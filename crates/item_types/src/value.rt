@@ -8,6 +8,7 @@ use crate::decl::Names;
 use crate::memory::Memory;
 use crate::same::Same;
 use crate::seq::Seq;
+use crate::shared::Shared;
 use crate::step::Phase;
 use crate::text::Text;
 use std::alloc::Global;
@@ -50,7 +51,8 @@ impl Proxy {
     }
 }
 
-/// What a build item carries: a tree.
+/// What a build item carries: a tree. Its copies share the parts of lists and beans, which never
+/// change, so that a copy costs the same whatever the size of the tree.
 #[derive(Drop)]
 pub enum Value {
     Null,
@@ -58,9 +60,9 @@ pub enum Value {
     Long(i64),
     Str(Text),
     /// A list and its elements.
-    List(NodeId, Seq<Value>),
+    List(NodeId, Shared<Value>),
     /// A bean of this number, and its fields in declared order.
-    Bean(NodeId, u32, Seq<Value>),
+    Bean(NodeId, u32, Shared<Value>),
     /// What a recorded call will return.
     Returned(Proxy),
 }
@@ -166,11 +168,10 @@ impl Value {
         }
     }
 
-    /// A value that equals it.
+    /// A value that equals it. It shares the parts of lists and beans.
     ///
     /// # Errors
     /// `Memory` for want of memory.
-    #[cycle(try_copy)]
     pub fn try_copy(&self, alloc: Global) -> Result<Value, Memory>
         ensures { IfOk result (λ v. v ≡ self.now) }
     {
@@ -179,10 +180,8 @@ impl Value {
             Value::Bool(b) => Ok(Value::Bool(*b)),
             Value::Long(n) => Ok(Value::Long(*n)),
             Value::Str(text) => Ok(Value::Str(text.try_copy(alloc)?)),
-            Value::List(id, parts) => Ok(Value::List(*id, copy_values(alloc, parts.as_slice())?)),
-            Value::Bean(id, bean, parts) => {
-                Ok(Value::Bean(*id, *bean, copy_values(alloc, parts.as_slice())?))
-            }
+            Value::List(id, parts) => Ok(Value::List(*id, parts.share()?)),
+            Value::Bean(id, bean, parts) => Ok(Value::Bean(*id, *bean, parts.share()?)),
             Value::Returned(proxy) => Ok(Value::Returned(*proxy)),
         }
     }
@@ -208,7 +207,6 @@ pub fn same_values(xs: &[Value], ys: &[Value]) -> bool
 ///
 /// # Errors
 /// `Memory` for want of memory.
-#[cycle(try_copy)]
 pub fn copy_values(alloc: Global, values: &[Value]) -> Result<Seq<Value>, Memory>
     ensures { IfOk result (λ s. s ≡ values.now) }
 {

@@ -1,5 +1,5 @@
 use crate::{Call, Recording, cells_of, first_runtime, proxies_of, text_of};
-use item_types::{Memory, NodeId, Phase, Proxy, Same, Seq, Text, Value};
+use item_types::{Memory, NodeId, Phase, Proxy, Same, Seq, Shared, Text, Value};
 use std::alloc::Global;
 
 fn proxy(step: u32, phase: Phase) -> Proxy {
@@ -16,9 +16,9 @@ fn sample(alloc: Global) -> Result<Value, Memory> {
     inner.push(Value::Returned(proxy(1, Phase::Runtime)))?;
     let mut parts = Seq::new(alloc);
     parts.push(Value::Returned(proxy(0, Phase::Static)))?;
-    parts.push(Value::Bean(NodeId { step: 3, k: 0 }, 0, inner))?;
+    parts.push(Value::Bean(NodeId { step: 3, k: 0 }, 0, Shared::of(alloc, inner)?))?;
     parts.push(Value::Returned(proxy(2, Phase::Runtime)))?;
-    Ok(Value::List(NodeId { step: 3, k: 1 }, parts))
+    Ok(Value::List(NodeId { step: 3, k: 1 }, Shared::of(alloc, parts)?))
 }
 
 #[test]

@@ -108,14 +108,14 @@ pub fn value_of(alloc: Global, cx: &Context<'_>, state: &mut State, e: &Expr) ->
         }
         Expr::All { at, item } => {
             let vs = copy_values(alloc, cx.taken(*item))?;
-            state.made_list(*at, cx.step(), vs)
+            state.made_list(alloc, *at, cx.step(), vs)
         }
         Expr::New { at, bean, fields } => {
             value_of_new(alloc, cx, state, *at, *bean, fields.as_slice())
         }
         Expr::ListOf { at, parts } => {
             let vs = values_of(alloc, cx, state, parts.as_slice())?;
-            state.made_list(*at, cx.step(), vs)
+            state.made_list(alloc, *at, cx.step(), vs)
         }
         Expr::Fields { inner, links } => {
             let v = value_of(alloc, cx, state, inner.get())?;
@@ -194,7 +194,7 @@ fn value_of_new(
 {
     let written = values_of_fields(alloc, cx, state, fields)?;
     let parts = arranged(alloc, cx.names().fields_of(bean), written)?;
-    state.made_bean(at, cx.step(), bean, parts)
+    state.made_bean(alloc, at, cx.step(), bean, parts)
 }
 
 #[cycle(expr)]

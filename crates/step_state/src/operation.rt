@@ -12,7 +12,7 @@ ghost use Rattle.step_state.specs.Operations as spec;
 use crate::finding::newest;
 use crate::outcome::Reason;
 use crate::stop::Stop;
-use item_types::{Memory, Names, Seq, Text, Value};
+use item_types::{Memory, Names, Seq, Shared, Text, Value};
 use std::alloc::Global;
 
 const MAX_TEXT: u64 = 65_535;
@@ -135,7 +135,7 @@ fn size_of_text(text: &str) -> usize
 }
 
 /// The elements of a list.
-pub fn elements(at: u32, value: Value) -> Result<Seq<Value>, Stop>
+pub fn elements(at: u32, value: Value) -> Result<Shared<Value>, Stop>
     ensures { Gives (spec.elements at value) result }
 {
     match value {

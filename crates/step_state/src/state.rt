@@ -7,7 +7,7 @@ use crate::measure::{size_of, size_of_all};
 use crate::outcome::Reason;
 use crate::scope::Scope;
 use crate::stop::Stop;
-use item_types::{ItemKind, Names, NodeId, Same, Seq, Text, Value};
+use item_types::{ItemKind, Names, NodeId, Same, Seq, Shared, Text, Value};
 use recorder_proxy::Call;
 use std::alloc::Global;
 
@@ -98,10 +98,17 @@ impl State {
 
     /// A new list, as the value of an expression.
     #[tactic(auto, unfolding(crate::specs::Spending::made_list))]
-    pub fn made_list(&mut self, at: u32, step: u32, parts: Seq<Value>) -> Result<Value, Stop>
+    pub fn made_list(
+        &mut self,
+        alloc: Global,
+        at: u32,
+        step: u32,
+        parts: Seq<Value>,
+    ) -> Result<Value, Stop>
         ensures { Evals (spec.made_list at step parts self.old) result self.new }
     {
         let k = self.node()?;
+        let parts = Shared::of(alloc, parts)?;
         self.made(at, Value::List(NodeId { step, k }, parts))
     }
 
@@ -109,6 +116,7 @@ impl State {
     #[tactic(auto, unfolding(crate::specs::Spending::made_bean))]
     pub fn made_bean(
         &mut self,
+        alloc: Global,
         at: u32,
         step: u32,
         bean: u32,
@@ -117,6 +125,7 @@ impl State {
         ensures { Evals (spec.made_bean at step bean parts self.old) result self.new }
     {
         let k = self.node()?;
+        let parts = Shared::of(alloc, parts)?;
         self.made(at, Value::Bean(NodeId { step, k }, bean, parts))
     }
 

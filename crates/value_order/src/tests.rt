@@ -1,5 +1,5 @@
 use crate::{found, in_order};
-use item_types::{BeanDecl, ItemDecl, ItemKind, Memory, Names, NodeId, Seq, Text, Value};
+use item_types::{BeanDecl, ItemDecl, ItemKind, Memory, Names, NodeId, Seq, Shared, Text, Value};
 use std::alloc::Global;
 
 /// An ordered item, a multi one and an empty one, and a bean of two fields.
@@ -36,7 +36,7 @@ fn bean(alloc: Global, k: i64, n: i64) -> Result<Value, Memory> {
     let mut parts = Seq::new(alloc);
     parts.push(Value::Long(k))?;
     parts.push(Value::Long(n))?;
-    Ok(Value::Bean(NodeId { step: 0, k: 0 }, 0, parts))
+    Ok(Value::Bean(NodeId { step: 0, k: 0 }, 0, Shared::of(alloc, parts)?))
 }
 
 /// Four beans, with the least and the greatest key among them and one key twice.
