@@ -1,5 +1,6 @@
 pub mod formers
 pub mod Bounds
+pub mod Fitting
 pub mod Measure
 pub mod Modified
 pub mod Named

@@ -1,9 +1,11 @@
 -- Values beside the names that their beans are declared by.
-use Rattle.std.specs.Prelude.{ℕ, ℤ, Bool, true, false, cond, ◌&&◌, ◌==◌, List, [], ◌∷◌, length, Option, Some, None, slice_get}
+use Rattle.std.specs.Prelude.{ℕ, ℤ, Bool, true, false, cond, ◌&&◌, ◌==◌, List, [], ◌∷◌, length, Option, Some, None, slice_get, position}
 use Rattle.std.specs.List.{list_all}
 use Rattle.std.specs.Str.{bytes_eq}
 use Rattle.item_types.specs.declared.decl.BeanDecl.{BeanDecl}
+use Rattle.item_types.specs.declared.decl.MethodSig.{MethodSig}
 use Rattle.item_types.specs.declared.decl.Names.{Names}
+use Rattle.item_types.specs.declared.decl.RecorderDecl.{RecorderDecl}
 use Rattle.item_types.specs.declared.value.Value.{Value, out-Value}
 use Rattle.item_types.specs.declared.value.Value.TheOpen.{Value-F}
 use Rattle.item_types.specs.declared.value.Value.TheOpen as one
@@ -40,6 +42,30 @@ fields_of (Some decl) = decl.fields
 abbrev pub bean_name : Option BeanDecl → List ℕ
 bean_name None = []
 bean_name (Some decl) = decl.name
+
+abbrev pub recorder_fields : Option RecorderDecl → List (List ℕ)
+recorder_fields None = []
+recorder_fields (Some decl) = decl.fields
+
+abbrev pub recorder_statics : Option RecorderDecl → List (List ℕ)
+recorder_statics None = []
+recorder_statics (Some decl) = decl.statics
+
+abbrev pub recorder_methods : Option RecorderDecl → List MethodSig
+recorder_methods None = []
+recorder_methods (Some decl) = decl.methods
+
+abbrev pub method_params : Option MethodSig → List (List ℕ)
+method_params None = []
+method_params (Some sig) = sig.params
+
+-- the place of the first of these names that is this one
+abbrev pub place_of : List ℕ → List (List ℕ) → Option ℕ
+place_of name names = position (λ n. bytes_eq n name) names
+
+-- the place of a static among those of its recorder
+abbrev pub static_place : Names → ℕ → List ℕ → Option ℕ
+static_place names recorder name = place_of name (recorder_statics (slice_get names.recorders recorder))
 
 abbrev pub long_of : Value-F Value → Option ℤ
 long_of one.Null = None

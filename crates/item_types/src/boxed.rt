@@ -4,11 +4,11 @@ use crate::memory::Memory;
 use std::alloc::Global;
 use std::marker::Model;
 
-/// A value of its own on the heap, as a part of a tree. Contracts see the value alone, so that
-/// equal trees are equal values.
+/// A part of a tree, behind a pointer, so that the part may be a tree of the same kind. Contracts
+/// don't see the pointer: they see the part.
 #[derive(Debug, Drop)]
 pub struct Boxed<T> {
-    inner: Box<T>,
+    part: Box<T>,
 }
 
 impl<T> Model for Boxed<T> {
@@ -16,37 +16,37 @@ impl<T> Model for Boxed<T> {
 
     ghost coded = { T.code };
 
-    ghost view = { λ b. b.inner.value };
-}
-
-impl<T> Boxed<T> {
-    /// The value.
-    pub fn get(&self) -> &T
-        ensures { result.now ≡ self.now }
-    {
-        &self.inner
-    }
-
-    /// The value, taken off the heap.
-    pub fn into_inner(self) -> T
-        ensures { result ≡ self }
-    {
-        let Boxed { inner } = self;
-        Box::into_inner(inner)
-    }
+    ghost view = { λ boxed. boxed.part.value };
 }
 
 impl<T: Drop> Boxed<T> {
-    /// The value, on the heap.
+    /// Puts the part behind a pointer.
     ///
     /// # Errors
-    /// `Memory` for want of memory: the value is given up.
-    pub fn new(alloc: Global, value: T) -> Result<Boxed<T>, Memory>
-        ensures { IfOk result (λ b. b ≡ value) }
+    /// `Memory` for want of memory: the part is given up.
+    pub fn new(alloc: Global, part: T) -> Result<Boxed<T>, Memory>
+        ensures { IfOk result (λ boxed. boxed ≡ part) }
     {
-        match Box::new(alloc, value) {
-            Ok(inner) => Ok(Boxed { inner }),
+        match Box::new(alloc, part) {
+            Ok(part) => Ok(Boxed { part }),
             Err(_) => Err(Memory),
         }
+    }
+}
+
+impl<T> Boxed<T> {
+    /// The part, to be read. It takes no memory.
+    pub fn get(&self) -> &T
+        ensures { result.now ≡ self.now }
+    {
+        &self.part
+    }
+
+    /// The part, and the pointer is given back.
+    pub fn into_inner(self) -> T
+        ensures { result ≡ self }
+    {
+        let Boxed { part } = self;
+        Box::into_inner(part)
     }
 }

@@ -58,7 +58,7 @@ pub struct Names {
 }
 
 impl Names {
-    ghost use Rattle.item_types.specs.Named.{fields_of, bean_name};
+    ghost use Rattle.item_types.specs.Named.{fields_of, bean_name, recorder_fields, recorder_statics, recorder_methods, method_params, static_place};
 
     /// The names of that bean's fields, in declared order; none where there is no such bean.
     pub fn fields_of(&self, bean: u32) -> &[Text]
@@ -78,6 +78,58 @@ impl Names {
             Some(decl) => decl.name.as_str(),
             None => "",
         }
+    }
+
+    /// The names of that recorder's fields, in declared order; none where there is no such
+    /// recorder.
+    pub fn recorder_fields(&self, recorder: u32) -> &[Text]
+        ensures { result.now ≡ recorder_fields (slice_get self.now.recorders recorder) }
+    {
+        match self.recorders.as_slice().get(recorder as usize) {
+            Some(decl) => decl.fields.as_slice(),
+            None => &[],
+        }
+    }
+
+    /// The names of that recorder's statics, in declared order; none where there is no such
+    /// recorder.
+    pub fn recorder_statics(&self, recorder: u32) -> &[Text]
+        ensures { result.now ≡ recorder_statics (slice_get self.now.recorders recorder) }
+    {
+        match self.recorders.as_slice().get(recorder as usize) {
+            Some(decl) => decl.statics.as_slice(),
+            None => &[],
+        }
+    }
+
+    /// That recorder's methods, in declared order; none where there is no such recorder.
+    pub fn recorder_methods(&self, recorder: u32) -> &[MethodSig]
+        ensures { result.now ≡ recorder_methods (slice_get self.now.recorders recorder) }
+    {
+        match self.recorders.as_slice().get(recorder as usize) {
+            Some(decl) => decl.methods.as_slice(),
+            None => &[],
+        }
+    }
+
+    /// The names of the parameters of that method of the recorder, in declared order; none where
+    /// there is no such method.
+    pub fn method_params(&self, recorder: u32, method: u32) -> &[Text]
+        ensures { result.now ≡ method_params (slice_get (recorder_methods (slice_get self.now.recorders recorder)) method) }
+    {
+        match self.recorder_methods(recorder).get(method as usize) {
+            Some(sig) => sig.params.as_slice(),
+            None => &[],
+        }
+    }
+
+    /// The place, from 0, of the static of that name among the recorder's statics; `None` where
+    /// the recorder has no such static.
+    pub fn static_place(&self, recorder: u32, name: &str) -> Option<usize>
+        ensures { result ≡ static_place self.now recorder name.now }
+    {
+        let statics = self.recorder_statics(recorder);
+        statics.iter().position(|s| s.as_str() == name)
     }
 }
 

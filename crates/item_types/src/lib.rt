@@ -7,6 +7,7 @@
 
 mod boxed;
 mod decl;
+mod laws;
 mod memory;
 mod print;
 mod quote;
@@ -19,15 +20,13 @@ mod value;
 
 pub use boxed::Boxed;
 pub use decl::{BeanDecl, ItemDecl, ItemKind, MethodSig, Names, RecorderDecl};
+pub use laws::{a_list_of_what_fits_fits, a_short_text_fits, a_whole_bean_fits};
 pub use memory::Memory;
 pub use print::{push_value, push_values};
 pub use quote::push_quoted;
 pub use same::Same;
 pub use seq::{Bytes, Seq};
-pub use shared::Shared;
+pub use shared::{Shared, SharedText};
 pub use step::{Consume, Phase, Produce, StepDecl};
 pub use text::Text;
-pub use value::{NodeId, Proxy, Value, copy_values, same_values};
-
-#[cfg(test)]
-mod tests;
+pub use value::{NodeId, Proxy, Value, copy_values, part_of, same_values};

@@ -4,11 +4,13 @@ use crate::memory::Memory;
 use std::alloc::Global;
 use std::marker::Model;
 
-/// A list that grows at its end. Contracts see it as the list of its elements, so that a copy
-/// equals what it copies.
+/// Declarations, statements, values or other elements in order. It grows at its end.
+///
+/// Contracts see the list of the elements, and nothing of the room that is left behind them: two
+/// of the same elements are equal.
 #[derive(Debug, Drop)]
 pub struct Seq<T> {
-    items: Vec<T>,
+    elements: Vec<T>,
 }
 
 /// Bytes, as files hold them.
@@ -22,71 +24,68 @@ impl<T> Model for Seq<T> {
 
     ghost coded = { coded_list T.code };
 
-    ghost view = { λ s. s.items.items };
+    ghost view = { λ seq. seq.elements.items };
 }
 
 impl<T> Seq<T> {
-    /// The empty list. It takes no memory.
+    /// No element. It takes no memory.
     pub fn new(alloc: Global) -> Seq<T>
         ensures { result ≡ [] }
     {
-        Seq {
-            items: Vec::new(alloc),
-        }
+        Seq::from_vec(Vec::new(alloc))
     }
 
-    /// The empty list, with room for that many elements.
+    /// No element, and room for that many.
     ///
     /// # Errors
     /// `Memory` for want of memory.
-    pub fn with_capacity(alloc: Global, capacity: usize) -> Result<Seq<T>, Memory>
-        ensures { IfOk result (λ s. s ≡ []) }
+    pub fn with_capacity(alloc: Global, room: usize) -> Result<Seq<T>, Memory>
+        ensures { IfOk result (λ seq. seq ≡ []) }
     {
-        Ok(Seq {
-            items: Vec::with_capacity(alloc, capacity)?,
-        })
+        let elements = Vec::with_capacity(alloc, room)?;
+        Ok(Seq { elements })
     }
 
-    /// The elements in order. It takes no memory.
+    /// The elements of a `Vec`. It takes no memory.
+    pub fn from_vec(elements: Vec<T>) -> Seq<T>
+        ensures { result ≡ elements.items }
+    {
+        Seq { elements }
+    }
+
+    /// The elements as a `Vec`, which can be changed anywhere. It takes no memory.
+    pub fn into_vec(self) -> Vec<T>
+        ensures { result.items ≡ self }
+    {
+        let Seq { elements } = self;
+        elements
+    }
+
+    /// The elements, to be read. It takes no memory.
     pub fn as_slice(&self) -> &[T]
         ensures { result.now ≡ self.now }
     {
-        self.items.as_slice()
+        self.elements.as_slice()
     }
 
     /// How many elements there are.
     pub fn len(&self) -> usize
         ensures { result ≡ length self.now }
     {
-        self.items.len()
-    }
-
-    /// The list of these elements. It takes no memory.
-    pub fn from_vec(items: Vec<T>) -> Seq<T>
-        ensures { result ≡ items.items }
-    {
-        Seq { items }
-    }
-
-    /// The elements as a `Vec`. It takes no memory.
-    pub fn into_vec(self) -> Vec<T>
-        ensures { result.items ≡ self }
-    {
-        let Seq { items } = self;
-        items
+        self.elements.len()
     }
 }
 
 impl<T: Drop> Seq<T> {
-    /// Appends the item.
+    /// Puts one more element at the end.
     ///
     /// # Errors
-    /// `Memory` for want of memory: the list is as before, and the item is given up.
-    pub fn push(&mut self, item: T) -> Result<(), Memory>
-        ensures ok { OnOk result (self.new ≡ self.old ++ item ∷ []) }
+    /// `Memory` for want of memory: the elements are as before, and the new one is given up.
+    pub fn push(&mut self, element: T) -> Result<(), Memory>
+        ensures ok { OnOk result (self.new ≡ self.old ++ element ∷ []) }
         ensures err { OnErr result (self.new ≡ self.old) }
     {
-        match self.items.push(item) {
+        match self.elements.push(element) {
             Ok(()) => Ok(()),
             Err(_) => Err(Memory),
         }

@@ -1,9 +1,7 @@
 ghost use Rattle.std.specs.Prelude.{◌≡◌, ◌<◌, ◌^◌, length, string_bytes, IfOk};
 ghost use Rattle.item_types.specs.Modified.{char_len, modified_len};
-ghost use Rattle.item_types.specs.Quoted.{quoted};
 
 use crate::memory::Memory;
-use crate::quote::push_quoted;
 use std::alloc::Global;
 use std::marker::Model;
 
@@ -63,18 +61,6 @@ impl Text {
     {
         modified_len_of(self.as_str())
     }
-
-    /// The text between quotes, with escapes where a character doesn't stand for itself.
-    ///
-    /// # Errors
-    /// `Memory` for want of memory.
-    pub fn quoted(&self, alloc: Global) -> Result<String, Memory>
-        ensures { IfOk result (λ s. string_bytes s ≡ quoted self.now) }
-    {
-        let mut out = String::new(alloc);
-        push_quoted(self.as_str(), &mut out)?;
-        Ok(out)
-    }
 }
 
 fn char_len(c: char) -> u64
@@ -89,7 +75,8 @@ fn char_len(c: char) -> u64
     }
 }
 
-fn modified_len_of(text: &str) -> u64
+/// How many bytes the text takes in modified UTF-8.
+pub(crate) fn modified_len_of(text: &str) -> u64
     ensures { result ≡ modified_len text.now }
 {
     let _size = size_of_text(text);

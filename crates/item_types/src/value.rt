@@ -6,9 +6,8 @@ ghost use Rattle.std.specs.Option.{option_copied};
 
 use crate::decl::Names;
 use crate::memory::Memory;
-use crate::same::Same;
 use crate::seq::Seq;
-use crate::shared::Shared;
+use crate::shared::{Shared, SharedText};
 use crate::step::Phase;
 use crate::text::Text;
 use std::alloc::Global;
@@ -51,14 +50,14 @@ impl Proxy {
     }
 }
 
-/// What a build item carries: a tree. Its copies share the parts of lists and beans, which never
-/// change, so that a copy costs the same whatever the size of the tree.
+/// What a build item carries: a tree. Its copies share the bytes of texts and the parts of lists
+/// and beans, which never change, so that a copy costs the same whatever the size of the tree.
 #[derive(Drop)]
 pub enum Value {
     Null,
     Bool(bool),
     Long(i64),
-    Str(Text),
+    Str(SharedText),
     /// A list and its elements.
     List(NodeId, Shared<Value>),
     /// A bean of this number, and its fields in declared order.
@@ -127,7 +126,7 @@ impl Value {
     {
         match self {
             Value::Bean(_, bean, parts) => {
-                match part_of(field, names.fields_of(*bean), parts.as_slice()) {
+                match part_of(field.as_str(), names.fields_of(*bean), parts.as_slice()) {
                     Some(part) => part.long(),
                     None => None,
                 }
@@ -154,7 +153,7 @@ impl Value {
             (Value::Null, Value::Null) => true,
             (Value::Bool(a), Value::Bool(b)) => *a == *b,
             (Value::Long(a), Value::Long(b)) => *a == *b,
-            (Value::Str(a), Value::Str(b)) => a.same(b),
+            (Value::Str(a), Value::Str(b)) => a.as_str() == b.as_str(),
             (Value::List(id, xs), Value::List(other_id, ys)) => {
                 id.same(*other_id) && same_values(xs.as_slice(), ys.as_slice())
             }
@@ -168,18 +167,18 @@ impl Value {
         }
     }
 
-    /// A value that equals it. It shares the parts of lists and beans.
+    /// A value that equals it. It shares the bytes of texts and the parts of lists and beans.
     ///
     /// # Errors
-    /// `Memory` for want of memory.
-    pub fn try_copy(&self, alloc: Global) -> Result<Value, Memory>
+    /// `Memory` where these are shared as often as can be counted.
+    pub fn try_copy(&self) -> Result<Value, Memory>
         ensures { IfOk result (λ v. v ≡ self.now) }
     {
         match self {
             Value::Null => Ok(Value::Null),
             Value::Bool(b) => Ok(Value::Bool(*b)),
             Value::Long(n) => Ok(Value::Long(*n)),
-            Value::Str(text) => Ok(Value::Str(text.try_copy(alloc)?)),
+            Value::Str(text) => Ok(Value::Str(text.share()?)),
             Value::List(id, parts) => Ok(Value::List(*id, parts.share()?)),
             Value::Bean(id, bean, parts) => Ok(Value::Bean(*id, *bean, parts.share()?)),
             Value::Returned(proxy) => Ok(Value::Returned(*proxy)),
@@ -212,17 +211,18 @@ pub fn copy_values(alloc: Global, values: &[Value]) -> Result<Seq<Value>, Memory
 {
     let mut copies = Seq::with_capacity(alloc, values.len())?;
     for value in values {
-        copies.push(value.try_copy(alloc)?)?;
+        copies.push(value.try_copy()?)?;
     }
     Ok(copies)
 }
 
-/// The value of the first field of that name.
-fn part_of<'a>(field: &Text, fields: &[Text], parts: &'a [Value]) -> Option<&'a Value>
+/// The value of the first field of that name; `None` where there is no such field, or no value
+/// for it. It takes no memory.
+pub fn part_of<'a>(field: &str, fields: &[Text], parts: &'a [Value]) -> Option<&'a Value>
     ensures { option_copied result ≡ part_of field.now fields.now parts.now }
 {
     for i in 0..fields.len().min(parts.len()) {
-        if fields[i].as_str() == field.as_str() {
+        if fields[i].as_str() == field {
             return Some(&parts[i]);
         }
     }

@@ -1,3 +1,4 @@
+pub mod Fitting
 pub mod Playable
 pub mod Proxies
 pub mod Sizes

@@ -11,6 +11,3 @@ pub use call::{Call, Recording};
 pub use laws::{empty_law, insert_law, plain_law, plain_recording_law, prefix_law};
 pub use proxies::{first_runtime, proxies_of};
 pub use sizes::{cells_of, text_of};
-
-#[cfg(test)]
-mod tests;

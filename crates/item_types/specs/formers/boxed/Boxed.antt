@@ -1,5 +1,5 @@
--- How a `Boxed` holds its value, so that a type may lead back to itself through one: it is that
--- value, kept behind the pointer of a `Box`.
+-- A tree may hold a `Boxed` tree: what a `Boxed` holder shows is what it holds, and its one field, a
+-- `Box`, says where that lies.
 use mathlib.Core.Path.{refl}
 use mathlib.Core.Former.{Former, this, const, pair, via}
 use base.Stored.{gnil}
@@ -23,17 +23,16 @@ use Rattle.item_types.specs.declared.boxed.Boxed.TheView.{view, invariant}
 use Rattle.item_types.specs.contracts.boxed.Boxed as boxed
 use Rattle.item_types.specs.contracts.boxed.Boxed.TheInside as inside
 
--- what `inner` holds, and nothing else
 abbrev pub the_former : Former {0} → Former {0}
 the_former inner = inner
 
 abbrev pub the_weighed : {inner : Former {0}} → Weighed inner → Weighed (the_former inner)
 the_weighed weighed = weighed
 
--- the one field: a pointer, its allocator, and the value behind it
+-- the struct, as its one field: a pointer and its allocator, and the part behind them
 abbrev field : Former {0}
-field = via (pair (const (Ptr × Global)) this) Inside (λ X b. ((b.inner.ptr, b.inner.alloc), b.inner.value))
-    (λ X held. record { inner = record { ptr = held.0.0; alloc = held.0.1; value = held.1 } }) (λ X b. refl) (λ X held. refl)
+field = via (pair (const (Ptr × Global)) this) Inside (λ X b. ((b.part.ptr, b.part.alloc), b.part.value))
+    (λ X held. record { part = record { ptr = held.0.0; alloc = held.0.1; value = held.1 } }) (λ X b. refl) (λ X held. refl)
 
 -- the same place on the heap, with another value
 abbrev holding : {X Y : Type 0} → Box X Global → Y → Box Y Global
