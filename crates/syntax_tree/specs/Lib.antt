@@ -1,1 +1,3 @@
 pub mod Undeclared
+pub mod Known
+pub mod Right
