@@ -1,7 +1,9 @@
 ghost use Rattle.std.specs.Prelude.{◌≡◌, ◌<◌, ◌^◌, length, string_bytes, IfOk};
 ghost use Rattle.item_types.specs.Modified.{char_len, modified_len};
+ghost use Rattle.item_types.specs.Quoted.{quoted};
 
 use crate::memory::Memory;
+use crate::quote::push_quoted;
 use std::alloc::Global;
 use std::marker::Model;
 
@@ -60,6 +62,18 @@ impl Text {
         ensures { result ≡ modified_len self.now }
     {
         modified_len_of(self.as_str())
+    }
+
+    /// The text between quotes, with escapes where a character doesn't stand for itself.
+    ///
+    /// # Errors
+    /// `Memory` for want of memory.
+    pub fn quoted(&self, alloc: Global) -> Result<String, Memory>
+        ensures { IfOk result (λ s. string_bytes s ≡ quoted self.now) }
+    {
+        let mut out = String::new(alloc);
+        push_quoted(self.as_str(), &mut out)?;
+        Ok(out)
     }
 }
 
