@@ -1,4 +1,4 @@
-ghost use Rattle.std.specs.Prelude.{◌≡◌, ◌==◌, ◌+◌, ◌-◌, ◌<◌, ◌≤◌, ℕ, List, [], ◌∷◌, ◌++◌, length, slice_index_or, Contains, IfOk, OnOk, OnErr, ◌↔◌};
+ghost use Rattle.std.specs.Prelude.{◌≡◌, ◌==◌, ◌+◌, ◌-◌, ◌<◌, ◌≤◌, ℕ, List, [], ◌∷◌, ◌++◌, length, slice_index_or, Contains, IfOk, OnOk, OnErr, ◌↔◌, vec_capacity};
 ghost use Rattle.std.specs.List.{filter};
 ghost use Rattle.std.specs.List.Sorted.{IsStrictlyIncreasing};
 ghost use Rattle.chain_builder.specs.Edge.{HasEdge};
@@ -54,36 +54,8 @@ impl Counts {
         self.counts[step as usize]
     }
 
-    /// The steps that wait for this one alone, so that its end will release them, in ascending
-    /// order.
-    ///
-    /// # Errors
-    /// `Memory` for want of memory.
-    pub fn releases(&self, alloc: Global, plan: &Plan, step: u32) -> Result<Seq<u32>, Memory>
-        requires { step < length plan.now.steps }
-        ensures told { IfOk result (λ told. (list : List ℕ) → AreCounts plan.now list self.now → (Contains list step → ⊥) → (s : ℕ) → Contains told s ↔ IsReleasedBy plan.now list step s) }
-        ensures ascending { IfOk result IsStrictlyIncreasing }
-    {
-        last_ones(
-            alloc,
-            self.counts.as_slice(),
-            plan.dependents(step).as_slice(),
-        )
-    }
-
-    /// Notes the end of a step: its dependents wait for one step less. It takes no memory, one step
-    /// of `steps`, and one for each dependent.
-    pub fn note_end<L: Ledger>(&mut self, plan: &Plan, step: u32, steps: &mut Steps<L>)
-        requires { step < length plan.now.steps }
-        ensures counts { (list : List ℕ) → AreCounts plan.now list self.old → (Contains list step → ⊥) → AreCounts plan.now (list ++ step ∷ []) self.new }
-        ensures cost { (n : ℕ) → HowMany (Leads plan.now step) n → steps.new ≤ steps.old + (1 + n) }
-    {
-        steps.tick();
-        lower(&mut self.counts, plan.dependents(step).as_slice(), steps);
-    }
-
-    /// Notes the end of a step, and gives the steps that wait for none any more, in ascending
-    /// order. It takes one step of `steps`, and one for each dependent.
+    /// Notes the end of a step: its dependents wait for one step less. It gives those that wait for
+    /// none any more, in ascending order. It counts one step for itself and one for each dependent.
     ///
     /// # Errors
     /// `Memory` for want of memory: the counts are as before.
@@ -98,31 +70,53 @@ impl Counts {
         ensures counts { OnOk result ((list : List ℕ) → AreCounts plan.now list self.old → (Contains list step → ⊥) → AreCounts plan.now (list ++ step ∷ []) self.new) }
         ensures told { IfOk result (λ told. (list : List ℕ) → AreCounts plan.now list self.old → (Contains list step → ⊥) → (s : ℕ) → Contains told s ↔ IsReleasedBy plan.now list step s) }
         ensures ascending { IfOk result IsStrictlyIncreasing }
-        ensures cost { OnOk result ((n : ℕ) → HowMany (Leads plan.now step) n → steps.new ≤ steps.old + (1 + n)) }
+        ensures cost { OnOk result ((n : ℕ) → HowMany (Leads plan.now step) n → steps.new ≡ steps.old + (1 + n)) }
         ensures err { OnErr result ((self.new ≡ self.old) × (steps.new ≡ steps.old)) }
     {
-        let told = self.releases(alloc, plan, step)?;
-        self.note_end(plan, step, steps);
-        Ok(told)
+        let dependents = plan.dependents(step).as_slice();
+        let mut told = Vec::with_capacity(alloc, dependents.len())?;
+        steps.take();
+        lower(&mut self.counts, dependents, &mut told, steps);
+        Ok(Seq::from_vec(told))
     }
 
-    /// Notes the end of a step, for a caller that counts no steps. It takes no memory.
-    pub fn note_end_uncounted(&mut self, plan: &Plan, step: u32)
+    /// The same for a caller that counts no steps.
+    ///
+    /// # Errors
+    /// `Memory` for want of memory: the counts are as before.
+    pub fn ended_uncounted(
+        &mut self,
+        alloc: Global,
+        plan: &Plan,
+        step: u32,
+    ) -> Result<Seq<u32>, Memory>
         requires { step < length plan.now.steps }
-        ensures { (list : List ℕ) → AreCounts plan.now list self.old → (Contains list step → ⊥) → AreCounts plan.now (list ++ step ∷ []) self.new }
+        ensures counts { OnOk result ((list : List ℕ) → AreCounts plan.now list self.old → (Contains list step → ⊥) → AreCounts plan.now (list ++ step ∷ []) self.new) }
+        ensures told { IfOk result (λ told. (list : List ℕ) → AreCounts plan.now list self.old → (Contains list step → ⊥) → (s : ℕ) → Contains told s ↔ IsReleasedBy plan.now list step s) }
+        ensures ascending { IfOk result IsStrictlyIncreasing }
+        ensures err { OnErr result (self.new ≡ self.old) }
     {
-        self.note_end_on::<Brand>(plan, step, Blank::new(1))
+        self.ended_on::<Brand>(alloc, plan, step, Blank::new(1))
     }
 
-    fn note_end_on<L: Ledger>(&mut self, plan: &Plan, step: u32, blank: Blank)
+    fn ended_on<L: Ledger>(
+        &mut self,
+        alloc: Global,
+        plan: &Plan,
+        step: u32,
+        ledger: Blank,
+    ) -> Result<Seq<u32>, Memory>
         requires range { step < length plan.now.steps }
-        requires name { blank.name ≡ L.name }
-        requires parts { blank.parts ≡ L.parts }
+        requires name { ledger.name ≡ L.name }
+        requires parts { ledger.parts ≡ L.parts }
         requires some { 0 < L.parts }
-        ensures { (list : List ℕ) → AreCounts plan.now list self.old → (Contains list step → ⊥) → AreCounts plan.now (list ++ step ∷ []) self.new }
+        ensures counts { OnOk result ((list : List ℕ) → AreCounts plan.now list self.old → (Contains list step → ⊥) → AreCounts plan.now (list ++ step ∷ []) self.new) }
+        ensures told { IfOk result (λ told. (list : List ℕ) → AreCounts plan.now list self.old → (Contains list step → ⊥) → (s : ℕ) → Contains told s ↔ IsReleasedBy plan.now list step s) }
+        ensures ascending { IfOk result IsStrictlyIncreasing }
+        ensures err { OnErr result (self.new ≡ self.old) }
     {
-        let mut steps: Steps<L> = Steps::new(blank);
-        self.note_end(plan, step, &mut steps);
+        let mut steps: Steps<L> = Steps::on(ledger);
+        self.ended(alloc, plan, step, &mut steps)
     }
 }
 
@@ -137,46 +131,38 @@ fn count_into(plan: &Plan, step: u32) -> Result<u32, Memory>
     }
 }
 
-/// The count of the step; 0 for a number that is no step's.
-fn count_at(counts: &[u32], step: u32) -> u32
-    ensures { result ≡ slice_index_or counts.now step 0 }
-{
-    match counts.get(step as usize) {
-        Some(count) => *count,
-        None => 0,
-    }
-}
-
-/// Those of the steps that wait for one step alone.
-fn last_ones(alloc: Global, counts: &[u32], steps: &[u32]) -> Result<Seq<u32>, Memory>
-    ensures { IfOk result (λ told. told ≡ filter (λ s. slice_index_or counts.now s 0 == 1) steps.now) }
-{
-    let mut told = Seq::new(alloc);
-    for step in steps {
-        if count_at(counts, *step) == 1 {
-            told.push(*step)?;
-        }
-    }
-    Ok(told)
-}
-
-/// Lowers the counts of these steps by one.
-fn lower<L: Ledger>(counts: &mut Vec<u32>, dependents: &[u32], steps: &mut Steps<L>)
-    requires { IsStrictlyIncreasing dependents.now }
+/// Lowers the counts of these steps by one, and puts those that were at one behind the told ones.
+fn lower<L: Ledger>(
+    counts: &mut Vec<u32>,
+    dependents: &[u32],
+    told: &mut Vec<u32>,
+    steps: &mut Steps<L>,
+)
+    requires rising { IsStrictlyIncreasing dependents.now }
+    requires none { told.old.items ≡ [] }
+    requires room { length dependents.now ≤ vec_capacity told.old }
     ensures lowered { AreLowered dependents.now counts.old.items counts.new.items }
+    ensures told { told.new.items ≡ filter (λ s. slice_index_or counts.old.items s 0 == 1) dependents.now }
     ensures cost { steps.new ≡ steps.old + length dependents.now }
 {
     for step in dependents {
-        lower_one(counts, *step);
-        steps.tick();
+        if lower_one(counts, *step) {
+            told.push_reserved(*step);
+        }
+        steps.take();
     }
 }
 
-fn lower_one(counts: &mut Vec<u32>, step: u32)
-    ensures { AreLowered (step ∷ []) counts.old.items counts.new.items }
+/// Lowers the count of the step by one, and tells whether it was at one.
+fn lower_one(counts: &mut Vec<u32>, step: u32) -> bool
+    ensures lowered { AreLowered (step ∷ []) counts.old.items counts.new.items }
+    ensures last { result ≡ (slice_index_or counts.old.items step 0 == 1) }
 {
     let at = step as usize;
-    if at < counts.len() {
-        counts[at] = counts[at].saturating_sub(1);
+    if at >= counts.len() {
+        return false;
     }
+    let count = counts[at];
+    counts[at] = count.saturating_sub(1);
+    count == 1
 }

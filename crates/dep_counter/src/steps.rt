@@ -3,11 +3,12 @@ ghost use Rattle.std.specs.Prelude.{◌≡◌, ◌+◌};
 use std::marker::Model;
 use std::sync::ledger::{Blank, Book, Ledger, Share};
 
-/// How many steps were taken. It takes no bytes, and a tick has no code.
+/// What calls cost, in steps of their work: contracts see how many were taken so far. Nothing of it
+/// is left in the program: it has no bytes, and taking a step has no code.
 #[derive(Drop)]
 pub struct Steps<L: Ledger> {
-    book: Book<L>,
-    share: Share<L>,
+    taken: Book<L>,
+    pen: Share<L>,
 }
 
 impl<L: Ledger> Model for Steps<L> {
@@ -15,29 +16,29 @@ impl<L: Ledger> Model for Steps<L> {
 
     ghost Value = { ℕ };
 
-    ghost view = { λ s. s.book.total };
+    ghost view = { λ s. s.taken.total };
 
-    ghost invariant = { λ s. 0 < s.share.parts };
+    ghost invariant = { λ s. 0 < s.pen.parts };
 }
 
 impl<L: Ledger> Steps<L> {
     ghost use Rattle.std.specs.Prelude.{◌≡◌, ◌<◌};
 
-    /// No steps yet, in the ledger that was blank.
-    pub fn new(blank: Blank) -> Steps<L>
-        requires name { blank.name ≡ L.name }
-        requires parts { blank.parts ≡ L.parts }
+    /// None taken yet, written into this ledger.
+    pub fn on(ledger: Blank) -> Steps<L>
+        requires name { ledger.name ≡ L.name }
+        requires parts { ledger.parts ≡ L.parts }
         requires some { 0 < L.parts }
         ensures { result ≡ 0 }
     {
-        let (book, share) = blank.open();
-        Steps { book, share }
+        let (taken, pen) = ledger.open();
+        Steps { taken, pen }
     }
 
-    /// One step more.
-    pub fn tick(&mut self)
+    /// Takes one more.
+    pub fn take(&mut self)
         ensures { self.new ≡ self.old + 1 }
     {
-        self.book.add(&mut self.share, 1);
+        self.taken.add(&mut self.pen, 1);
     }
 }

@@ -1,106 +1,132 @@
-ghost use Rattle.std.specs.Prelude.{◌≡◌, ◌≤◌, ℕ, [], Contains, OnOk, OnErr, IfSome, IfNone, IsTrue, ◌↔◌, length};
-ghost use Rattle.step_set.specs.Members.{IsWith, IsWithout, IsWithAll, IsWithoutAll, HasSame};
+ghost use Rattle.std.specs.Prelude.{◌≡◌, ◌+◌, ◌<◌, ◌≤◌, ◌^◌, ◌==◌, ℕ, cond, length, slice_index_or, Contains, IfOk, IfSome, IfNone, IsTrue, ◌↔◌};
+ghost use Rattle.std.specs.List.{All};
+ghost use Rattle.step_set.specs.Members.{Has, IsWith, IsWithout, IsWithAll};
+ghost use Rattle.step_set.specs.Places.{IsLesser, AreLesser};
 
 use item_types::Memory;
 use std::alloc::Global;
-use std::collections::BTreeSet;
 use std::marker::Model;
 
-/// A set of steps, in order.
+/// A set of steps whose numbers are below a bound, with room for each of them.
+///
+/// It has a place for each step, and above them places that hold the lesser of two others: place 1
+/// is the top, and places 2i and 2i + 1 are those below place i. So the least step of the set is
+/// found at the top, and a step that comes or goes changes the places on its way there.
 #[derive(Drop)]
 pub struct StepSet {
-    steps: BTreeSet<u32, Global>,
+    members: Vec<bool>,
+    places: Vec<u32>,
 }
 
 impl Model for StepSet {
-    ghost use Rattle.std.specs.Prelude.{ℕ, List};
-    ghost use Rattle.std.specs.Ordering.{nat_cmp};
-    ghost use Rattle.std.specs.BTreeSet.{IsOrdered};
+    ghost use Rattle.std.specs.Prelude.{Bool, List};
+    ghost use Rattle.step_set.specs.Places.{AreFilled};
 
-    ghost Value = { List ℕ };
+    ghost Value = { List Bool };
 
-    ghost view = { λ s. s.steps.keys };
+    ghost view = { λ s. s.members.items };
 
-    ghost invariant = { λ s. IsOrdered nat_cmp s.steps };
+    ghost invariant = { λ s. AreFilled s.members.items s.places.items };
 }
 
 impl StepSet {
-    /// No steps. It takes no memory.
-    pub fn new(alloc: Global) -> StepSet
-        ensures { (s : ℕ) → Contains result s → ⊥ }
+    /// No steps, and room for each below the bound.
+    ///
+    /// # Errors
+    /// `Memory` for want of memory.
+    pub fn new(alloc: Global, bound: usize) -> Result<StepSet, Memory>
+        requires { bound < 2 ^ 32 }
+        ensures room { IfOk result (λ set. length set ≡ bound) }
+        ensures none { IfOk result (λ set. (s : ℕ) → Has set s → ⊥) }
     {
-        StepSet {
-            steps: BTreeSet::new(alloc),
-        }
+        let Some(double) = bound.checked_add(bound) else {
+            return Err(Memory);
+        };
+        let mut members = Vec::new(alloc);
+        members.resize(bound, false)?;
+        let mut places = Vec::new(alloc);
+        places.resize(double, bound as u32)?;
+        Ok(StepSet { members, places })
     }
 
-    /// Whether the step is in the set.
+    /// Whether the step is in the set. It takes no memory.
     pub fn contains(&self, step: u32) -> bool
-        ensures { IsTrue result ↔ Contains self.now step }
+        ensures { IsTrue result ↔ Has self.now step }
     {
-        self.steps.contains(&step)
+        match self.members.get(step as usize) {
+            Some(member) => *member,
+            None => false,
+        }
     }
 
-    /// The least step, if there is one.
+    /// The least step, if there is one. It takes no memory.
     pub fn least(&self) -> Option<u32>
-        ensures member { IfSome result (λ x. Contains self.now x) }
-        ensures least { IfSome result (λ x. (s : ℕ) → Contains self.now s → x ≤ s) }
-        ensures none { IfNone result ((s : ℕ) → Contains self.now s → ⊥) }
+        ensures member { IfSome result (λ x. Has self.now x) }
+        ensures least { IfSome result (λ x. (s : ℕ) → Has self.now s → x ≤ s) }
+        ensures none { IfNone result ((s : ℕ) → Has self.now s → ⊥) }
     {
-        match self.steps.first() {
-            Some(step) => Some(*step),
-            None => None,
+        let top = *self.places.get(1)?;
+        if (top as usize) < self.members.len() {
+            Some(top)
+        } else {
+            None
         }
     }
 
-    /// Puts the step into the set.
-    ///
-    /// # Errors
-    /// `Memory` for want of memory: the set is as before.
-    pub fn insert(&mut self, step: u32) -> Result<(), Memory>
-        ensures ok { OnOk result (IsWith self.old step self.new) }
-        ensures err { OnErr result (self.new ≡ self.old) }
+    /// Puts the step into the set. It takes no memory.
+    pub fn insert(&mut self, step: u32)
+        requires { step < length self.old }
+        ensures room { length self.new ≡ length self.old }
+        ensures with { IsWith self.old step self.new }
     {
-        match self.steps.insert(step) {
-            Ok(_) => Ok(()),
-            Err(_) => Err(Memory),
-        }
+        let at = step as usize;
+        self.members[at] = true;
+        fill(&mut self.places, self.members.len(), at, step);
     }
 
-    /// Takes the step out of the set.
+    /// Takes the step out of the set. It takes no memory.
     pub fn remove(&mut self, step: u32)
-        ensures { IsWithout self.old step self.new }
+        requires { step < length self.old }
+        ensures room { length self.new ≡ length self.old }
+        ensures without { IsWithout self.old step self.new }
     {
-        let _was = self.steps.remove(&step);
+        let at = step as usize;
+        let bound = self.members.len();
+        self.members[at] = false;
+        fill(&mut self.places, bound, at, bound as u32);
     }
 
-    /// Puts these steps into the set.
-    ///
-    /// # Errors
-    /// `Memory` for want of memory: the set has what it had before.
-    pub fn insert_all(&mut self, steps: &[u32]) -> Result<(), Memory>
-        requires apart { (s : ℕ) → Contains steps.now s → Contains self.old s → ⊥ }
-        ensures ok { OnOk result (IsWithAll self.old steps.now self.new) }
-        ensures err { OnErr result (HasSame self.old self.new) }
-    {
-        for i in 0..steps.len() {
-            match self.insert(steps[i]) {
-                Ok(()) => {}
-                Err(_) => {
-                    self.remove_all(&steps[..i]);
-                    return Err(Memory);
-                }
-            }
-        }
-        Ok(())
-    }
-
-    /// Takes these steps out of the set.
-    fn remove_all(&mut self, steps: &[u32])
-        ensures { IsWithoutAll self.old steps.now self.new }
+    /// Puts these steps into the set. It takes no memory.
+    pub fn insert_all(&mut self, steps: &[u32])
+        requires { All (λ s. s < length self.old) steps.now }
+        ensures room { length self.new ≡ length self.old }
+        ensures with { IsWithAll self.old steps.now self.new }
     {
         for step in steps {
-            self.remove(*step);
+            self.insert(*step);
         }
     }
+}
+
+/// Has the place of the step hold the value, and the places above it the lesser of those below.
+fn fill(places: &mut Vec<u32>, bound: usize, step: usize, value: u32)
+    requires wide { length places.old.items ≡ bound + bound }
+    requires range { step < bound }
+    requires lesser { AreLesser bound places.old.items }
+    ensures wide { length places.new.items ≡ bound + bound }
+    ensures held { (s : ℕ) → s < bound → slice_index_or places.new.items (bound + s) 0 ≡ cond (s == step) value (slice_index_or places.old.items (bound + s) 0) }
+    ensures lesser { AreLesser bound places.new.items }
+{
+    places[bound + step] = value;
+    let mut at = (bound + step) / 2;
+    while at > 0 {
+        places[at] = lesser(places[2 * at], places[2 * at + 1]);
+        at /= 2;
+    }
+}
+
+fn lesser(left: u32, right: u32) -> u32
+    ensures { IsLesser left right result }
+{
+    if left < right { left } else { right }
 }
