@@ -9,7 +9,8 @@ import shutil
 import sys
 import tempfile
 
-from . import explain
+from . import explain, graph, history_tool, lint, why
+from .project import load
 
 TOP = os.path.dirname(os.path.dirname(os.path.dirname(os.path.realpath(__file__))))
 TOOLS = os.path.join(TOP, "tools")
@@ -106,7 +107,59 @@ def verify_explain(compare, room):
             compare.text(f"tools/mistakes/{command}/{file[:-5]}.txt", found)
 
 
-CHECKS = [verify_explain]
+# What tools/why is asked of an example.
+ASKED = {
+    "conditions/override.toml": ["user", "Conf"],
+    "overridable/app.toml": ["dflt", "Conf"],
+    "weak/app.toml": ["w", "T"],
+    "web/app.toml": ["web.router", "metrics", "Route", "Metrics", "ruoter"],
+}
+
+
+def project_files():
+    """The examples' project files, those of refused projects left out."""
+    for name in sorted(os.listdir(EXAMPLES)):
+        here = os.path.join(EXAMPLES, name)
+        for file in sorted(os.listdir(here)) if os.path.isdir(here) and name != "refused_projects" else ():
+            if file.endswith(".toml"):
+                yield f"{name}/{file}"
+
+
+def verify_why(compare, room):
+    with folder(EXAMPLES):
+        found = [printed(why.main, [file, name]) for file, names in ASKED.items() for name in names]
+    compare.text("tools/stored/why.txt", "\n".join(found))
+
+
+def verify_lint(compare, room):
+    with folder(EXAMPLES):
+        compare.text("tools/stored/lint.txt", printed(lint.main, list(project_files())))
+
+
+def verify_graph(compare, room):
+    with folder(EXAMPLES):
+        compare.text("tools/stored/web.svg", printed(graph.main, ["web/app.toml", "web/build.files/built"]))
+        compare.text("tools/stored/web.dot", printed(graph.main, ["web/app.toml", "--dot"]))
+        compare.text("tools/stored/failing_step.svg", printed(graph.main, ["failing_step/app.toml", "failing_step/build.files/built"]))
+        for file in project_files():
+            picture = graph.Picture.of(load(file), [])
+            compare.holds(f"the graph of {file} has no box for each step", graph.svg(picture).count("<g data-step=") == len(picture.chain.project.steps))
+
+
+def verify_history(compare, room):
+    with folder(EXAMPLES):
+        values, web, failing = (f"{it}/build.files/built" for it in ("values", "web", "failing_step"))
+        compare.text("tools/stored/history_tables.txt", "\n".join(printed(history_tool.main, [it]) for it in (values, web, failing)))
+        compare.text("tools/stored/history_values.json", printed(history_tool.main, [values, "--json"]))
+        compare.text("tools/stored/history_page.html", printed(history_tool.main, [failing, "--html", "failing_step/app.toml"]))
+        later = os.path.join(room, "later.txt")
+        with open(later, "w", encoding="utf-8") as file:
+            file.write(read(f"{web}/history.txt").replace("Quarkus profile", "Another profile").replace("#1.", "#9."))
+        compare.text("tools/stored/history_difference.txt", printed(history_tool.main, [web, later]))
+        compare.holds("a history differs from itself", printed(history_tool.main, [web, web]) == "7 steps the same, 0 not\n")
+
+
+CHECKS = [verify_explain, verify_why, verify_lint, verify_graph, verify_history]
 
 
 def main(words):
