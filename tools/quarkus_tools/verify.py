@@ -9,7 +9,8 @@ import shutil
 import sys
 import tempfile
 
-from . import explain, graph, history_tool, lint, why
+from . import explain, graph, history_tool, lint, verify_editors, why
+from .program import run
 from .project import load
 
 TOP = os.path.dirname(os.path.dirname(os.path.dirname(os.path.realpath(__file__))))
@@ -98,13 +99,12 @@ def explained_examples(room):
 
 def verify_explain(compare, room):
     compare.text("tools/stored/explain_examples.txt", explained_examples(room))
-    for command in ("plan", "build"):
-        here = os.path.join(TOOLS, "mistakes", command)
-        for file in sorted(it for it in os.listdir(here) if it.endswith(".toml")):
-            out = [os.path.join(room, "out")] if command == "build" else []
-            with folder(here):
-                found = printed(explain.main, [file, "--", command, *out])
-            compare.text(f"tools/mistakes/{command}/{file[:-5]}.txt", found)
+    for path in mistaken():
+        command, file = path.split("/")
+        out = [os.path.join(room, "out")] if command == "build" else []
+        with folder(os.path.join(TOOLS, "mistakes", command)):
+            found = printed(explain.main, [file, "--", command, *out])
+        compare.text(f"tools/mistakes/{path[:-5]}.txt", found)
 
 
 # What tools/why is asked of an example.
@@ -159,7 +159,42 @@ def verify_history(compare, room):
         compare.holds("a history differs from itself", printed(history_tool.main, [web, web]) == "7 steps the same, 0 not\n")
 
 
-CHECKS = [verify_explain, verify_why, verify_lint, verify_graph, verify_history]
+def verify_schema(compare, room):
+    """The schema takes every project, and what it says of refused files is as stored."""
+    examples = [(f"examples/{it}", os.path.join(EXAMPLES, it)) for it in project_files()]
+    refused = os.path.join(EXAMPLES, "refused_projects")
+    examples += [(f"examples/refused_projects/{it}", os.path.join(refused, it)) for it in sorted(os.listdir(refused)) if it.endswith(".toml")]
+    mistakes = [(f"mistakes/{it}", os.path.join(TOOLS, "mistakes", it)) for it in mistaken()]
+    table, wrong = verify_editors.schema_table(examples + mistakes)
+    compare.text("tools/stored/schema.txt", table)
+    compare.holds(f"the schema refuses the projects {wrong}", not wrong)
+
+
+def mistaken():
+    """The project files of typical mistakes, by command."""
+    for command in ("plan", "build"):
+        for file in sorted(os.listdir(os.path.join(TOOLS, "mistakes", command))):
+            if file.endswith(".toml"):
+                yield f"{command}/{file}"
+
+
+def verify_vscode(compare, room):
+    """The editors' files fit each other, the language and what the tools print."""
+    for path in verify_editors.named_files():
+        compare.holds(f"editors/vscode has no {path}", os.path.exists(os.path.join(verify_editors.VSCODE, path)))
+    compare.holds("the grammar has other keywords than the language", verify_editors.grammar_keywords() == verify_editors.keywords())
+    wrong = verify_editors.differently_coloured([(it, os.path.join(EXAMPLES, it)) for it in project_files()])
+    compare.holds(f"the grammar finds other tokens in {wrong}", not wrong)
+    path = os.path.join(room, "snippets.toml")
+    with open(path, "w", encoding="utf-8") as file:
+        file.write(verify_editors.snippet_project())
+    status, text = run(["plan", path])
+    compare.holds(f"the snippets make no project: {text}", status == 0)
+    places = verify_editors.matcher().findall(read(os.path.join(TOOLS, "stored", "lint.txt")) + read(os.path.join(TOOLS, "mistakes", "plan", "minus.txt")))
+    compare.holds("the problem matcher finds no place", ("minus.toml", "12", "43", "", "`-1` may not stand here") in places and len(places) > 9)
+
+
+CHECKS = [verify_explain, verify_why, verify_lint, verify_graph, verify_history, verify_schema, verify_vscode]
 
 
 def main(words):
