@@ -5,9 +5,9 @@ use Rattle.std.specs.Option.{is_some, option_copied}
 use Rattle.std.specs.Str.{bytes_eq}
 use Rattle.item_types.specs.declared.value.Value.{Value}
 use Rattle.item_types.specs.declared.value.Value.TheVariants.{Null}
-use Rattle.step_state.specs.Found.{found}
+use Rattle.operators.specs.Found.{found}
 use Rattle.step_state.specs.Operations.{arranged}
-use Rattle.step_state.proofs.Newest.{found_last}
+use Rattle.operators.proofs.CallerLemmas.{found_last}
 
 -- one more field, written at its own place and not again after it
 pub in_order_more : (fields : List (List ℕ)) (written : List (List ℕ × Value)) (i : ℕ) (f : List ℕ) (e : List ℕ × Value) → i < length fields → i < length written →

@@ -1,5 +1,4 @@
 pub mod Evaluation
-pub mod Found
 pub mod Operations
 pub mod Scoped
 pub mod Size

@@ -1,10 +1,5 @@
--- The operations on values, each at the number of its token. This project's own.
-use Rattle.std.specs.Prelude.{ℕ, pos, Bool, true, false, not, ◌==◌, ◌&&◌, ◌||◌, nat_lt, if◌then◌else◌, List, ◌++◌, map, length, slice_get, Option, Some, None, unwrap_or, Ok, Err}
-use Rattle.std.specs.Int.{int_wrapping_add, w64}
-use Rattle.std.specs.Int.Signed.{lt_z}
-use Rattle.std.specs.Ordering.{int_eq}
-use Rattle.std.specs.Str.{bytes_eq, chars}
-use Rattle.item_types.specs.Modified.{modified_len}
+-- The operations on a step's values, each at the number of its token. This project's own.
+use Rattle.std.specs.Prelude.{ℕ, ℤ, pos, Bool, true, false, ◌==◌, ◌&&◌, ◌||◌, if◌then◌else◌, List, length, slice_get, Option, Some, None, Ok, Err}
 use Rattle.item_types.specs.Named.{fields_of, part_of}
 use Rattle.item_types.specs.declared.decl.Names.{Names}
 use Rattle.item_types.specs.declared.value.NodeId.{NodeId}
@@ -12,13 +7,31 @@ use Rattle.item_types.specs.declared.value.Value.{Value, out-Value}
 use Rattle.item_types.specs.declared.value.Value.TheOpen.{Value-F}
 use Rattle.item_types.specs.declared.value.Value.TheOpen as one
 use Rattle.item_types.specs.declared.value.Value.TheVariants as value
+use Rattle.operators.specs.Found.{arranged as arranged_or}
+use Rattle.operators.specs.Operations.{Operand, is_too_long}
+use Rattle.operators.specs.Operations as shared
+use Rattle.operators.specs.declared.operand.Operand.TheVariants as operand
+use Rattle.operators.specs.declared.operation.Added.{Added}
+use Rattle.operators.specs.declared.operation.Added.TheVariants as sum
 use Rattle.step_state.specs.declared.outcome.Reason.TheVariants.{Kind, ProxyUsed, Said, TextTooLong}
 use Rattle.step_state.specs.Evaluation.{Checked}
-use Rattle.step_state.specs.Found.{found}
 
 -- a value, whose parts are values
 abbrev pub Layer : Type 0
 Layer = Value-F Value
+
+-- what the operations see of a value
+abbrev pub seen_at : Layer → Operand
+seen_at one.Null = operand.Null
+seen_at (one.Bool b) = operand.Bool b
+seen_at (one.Long n) = operand.Long n
+seen_at (one.Str t) = operand.Str t
+seen_at (one.List id parts) = operand.List (pos (length parts))
+seen_at (one.Bean id bean parts) = operand.Other
+seen_at (one.Returned p) = operand.Other
+
+unfoldable pub seen : Value → Operand
+seen v = seen_at (out-Value v)
 
 abbrev pub is_proxy_at : Layer → Bool
 is_proxy_at (one.Returned p) = true
@@ -31,60 +44,54 @@ is_proxy v = is_proxy_at (out-Value v)
 abbrev pub refused : {A : Type 0} → ℕ → Bool → Checked A
 refused at proxy = Err (if proxy then ProxyUsed at else Kind at)
 
--- a literal or a join, of 65,535 bytes in modified UTF-8
+-- a literal, of 65,535 bytes in modified UTF-8
 unfoldable pub text : List ℕ → Checked Value
-text t = if nat_lt 65535 (modified_len t) then Err TextTooLong else Ok (value.Str t)
+text t = if is_too_long t then Err TextTooLong else Ok (value.Str t)
 
-abbrev pub joined : List ℕ → List ℕ → List ℕ
-joined a b = a ++ b
+abbrev pub summed : ℕ → Bool → Added → Checked Value
+summed at proxy (sum.Long n) = Ok (value.Long n)
+summed at proxy (sum.Str t) = Ok (value.Str t)
+summed at proxy sum.WrongKind = refused at proxy
+summed at proxy sum.TooLong = Err TextTooLong
 
--- the sum of two numbers, wrapped to 64 bits, or the join of two texts
-abbrev pub plus_at : ℕ → Bool → Layer → Layer → Checked Value
-plus_at at proxy (one.Long a) (one.Long b) = Ok (value.Long (int_wrapping_add w64 a b))
-plus_at at proxy (one.Str a) (one.Str b) = text (joined a b)
-plus_at at proxy _ _ = refused at proxy
-
+-- the sum of two numbers, or the join of two texts
 abbrev pub plus : ℕ → Value → Value → Checked Value
-plus at a b = plus_at at (is_proxy a || is_proxy b) (out-Value a) (out-Value b)
+plus at a b = summed at (is_proxy a || is_proxy b) (shared.plus (seen a) (seen b))
 
-abbrev pub less_at : ℕ → Bool → Layer → Layer → Checked Value
-less_at at proxy (one.Long a) (one.Long b) = Ok (value.Bool (lt_z a b))
-less_at at proxy _ _ = refused at proxy
+-- a truth value, unless an operand is wrong
+abbrev pub bool_or_refused : ℕ → Bool → Option Bool → Checked Value
+bool_or_refused at proxy (Some b) = Ok (value.Bool b)
+bool_or_refused at proxy None = refused at proxy
 
 abbrev pub less : ℕ → Value → Value → Checked Value
-less at a b = less_at at (is_proxy a || is_proxy b) (out-Value a) (out-Value b)
+less at a b = bool_or_refused at (is_proxy a || is_proxy b) (shared.less (seen a) (seen b))
 
 abbrev pub same_node : NodeId → NodeId → Bool
 same_node a b = a.step == b.step && a.k == b.k
 
--- both null, equal truth values, numbers or texts, or the same node
+-- the same node, or both null, equal truth values, numbers or texts
 abbrev pub same_at : Layer → Layer → Bool
-same_at one.Null one.Null = true
-same_at (one.Bool a) (one.Bool b) = if a then b else not b
-same_at (one.Long a) (one.Long b) = int_eq a b
-same_at (one.Str a) (one.Str b) = bytes_eq a b
 same_at (one.List a xs) (one.List b ys) = same_node a b
 same_at (one.Bean a k xs) (one.Bean b l ys) = same_node a b
-same_at _ _ = false
+same_at x y = shared.same_plain (seen_at x) (seen_at y)
 
 abbrev pub equal : ℕ → Value → Value → Checked Value
 equal at a b = if is_proxy a || is_proxy b then Err (ProxyUsed at) else Ok (value.Bool (same_at (out-Value a) (out-Value b)))
 
-abbrev pub truth_at : ℕ → Bool → Layer → Checked Bool
-truth_at at proxy (one.Bool b) = Ok b
-truth_at at proxy _ = refused at proxy
+abbrev pub truth_or_refused : ℕ → Bool → Option Bool → Checked Bool
+truth_or_refused at proxy (Some b) = Ok b
+truth_or_refused at proxy None = refused at proxy
 
 abbrev pub truth : ℕ → Value → Checked Bool
-truth at v = truth_at at (is_proxy v) (out-Value v)
+truth at v = truth_or_refused at (is_proxy v) (shared.truth (seen v))
+
+abbrev pub long_or_refused : ℕ → Bool → Option ℤ → Checked Value
+long_or_refused at proxy (Some n) = Ok (value.Long n)
+long_or_refused at proxy None = refused at proxy
 
 -- how many characters a text has, or how many elements a list
-abbrev pub count_at : ℕ → Bool → Layer → Checked Value
-count_at at proxy (one.Str t) = Ok (value.Long (pos (length (chars t))))
-count_at at proxy (one.List id parts) = Ok (value.Long (pos (length parts)))
-count_at at proxy _ = refused at proxy
-
 abbrev pub count : ℕ → Value → Checked Value
-count at v = count_at at (is_proxy v) (out-Value v)
+count at v = long_or_refused at (is_proxy v) (shared.len (seen v))
 
 abbrev pub elements_at : ℕ → Bool → Layer → Checked (List Value)
 elements_at at proxy (one.List id parts) = Ok parts
@@ -114,4 +121,4 @@ field names at name v = field_at names at name (is_proxy v) (out-Value v)
 
 -- the values in the declared order of their fields
 unfoldable pub arranged : List (List ℕ) → List (List ℕ × Value) → List Value
-arranged fields written = map (λ f. unwrap_or (found written f) value.Null) fields
+arranged fields written = arranged_or value.Null fields written

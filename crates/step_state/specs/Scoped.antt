@@ -3,7 +3,7 @@ use Rattle.std.specs.Prelude.{ℕ, length, take, List, [], ◌∷◌, ◌++◌, 
 use Rattle.item_types.specs.declared.value.Value.{Value}
 use Rattle.item_types.specs.declared.value.Value.TheVariants.{Null}
 use Rattle.step_state.specs.Evaluation.{Eval, and_then}
-use Rattle.step_state.specs.Found.{found}
+use Rattle.operators.specs.Found.{found}
 
 -- the newest value of the name
 abbrev pub look : List ℕ → Eval Value

@@ -1,6 +1,6 @@
 ghost use Rattle.std.specs.Prelude.{◌≡◌};
 ghost use Rattle.std.specs.Option.{option_copied};
-ghost use Rattle.step_state.specs.Found.{found};
+ghost use Rattle.operators.specs.Found.{found};
 
 use item_types::{Text, Value};
 

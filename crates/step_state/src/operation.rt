@@ -1,21 +1,18 @@
 // The operations on values. `at` is the number of the operation's token.
 
-ghost use Rattle.std.specs.Prelude.{◌≡◌, ◌<◌, ◌^◌, if◌then◌else◌, length, map, IfOk};
+ghost use Rattle.std.specs.Prelude.{◌≡◌, if◌then◌else◌, map, IfOk};
 ghost use Rattle.std.specs.Bool.{OnTrue};
-ghost use Rattle.std.specs.Option.{option_copied};
-ghost use Rattle.std.specs.Str.{chars};
-ghost use Rattle.item_types.specs.Named.{part_of};
 ghost use Rattle.item_types.specs.declared.value.Value.{out-Value};
+ghost use Rattle.operators.specs.Operands.{shown};
 ghost use Rattle.step_state.specs.Evaluation.{Gives};
 ghost use Rattle.step_state.specs.Operations as spec;
 
 use crate::finding::newest;
 use crate::outcome::Reason;
 use crate::stop::Stop;
-use item_types::{Memory, Names, Seq, Shared, Text, Value};
+use item_types::{Memory, Names, Same, Seq, Shared, SharedText, Text, Value, part_of};
+use operators::{Added, Operand, is_too_long, len, same_plain};
 use std::alloc::Global;
-
-const MAX_TEXT: u64 = 65_535;
 
 fn refused(at: u32, proxy: bool) -> Stop
     ensures { result ≡ Stop.Fails (if proxy then Reason.ProxyUsed at else Reason.Kind at) }
@@ -32,58 +29,63 @@ fn is_proxy(value: &Value) -> bool
     matches!(value, Value::Returned(_))
 }
 
-/// A text as a value, unless it is too long.
-#[tactic(auto, unfolding(crate::specs::Operations::text))]
-pub fn text(text: Text) -> Result<Value, Stop>
-    ensures { Gives (spec.text text) result }
+/// What the operations see of a value.
+#[tactic(auto, unfolding(crate::specs::Operations::seen))]
+fn operand(value: &Value) -> Operand<&str>
+    ensures { shown result ≡ spec.seen value.now }
 {
-    if text.modified_len() > MAX_TEXT {
+    match value {
+        Value::Null => Operand::Null,
+        Value::Bool(b) => Operand::Bool(*b),
+        Value::Long(n) => Operand::Long(*n),
+        Value::Str(text) => Operand::Str(text.as_str()),
+        Value::List(_, parts) => Operand::List(parts.as_slice().len() as i64),
+        Value::Bean(_, _, _) | Value::Returned(_) => Operand::Other,
+    }
+}
+
+/// A text of the body as a value, unless it is too long.
+#[tactic(auto, unfolding(crate::specs::Operations::text))]
+pub fn text(alloc: Global, text: &Text) -> Result<Value, Stop>
+    ensures { Gives (spec.text text.now) result }
+{
+    if is_too_long(text) {
         return Err(Stop::Fails(Reason::TextTooLong));
     }
-    Ok(Value::Str(text))
+    let copy = text.try_copy(alloc)?;
+    Ok(Value::Str(SharedText::of(alloc, copy)?))
 }
 
 /// The sum of two numbers, or the join of two texts.
-pub fn plus(at: u32, a: Value, b: Value) -> Result<Value, Stop>
-    ensures { Gives (spec.plus at a b) result }
+pub fn plus(alloc: Global, at: u32, a: &Value, b: &Value) -> Result<Value, Stop>
+    ensures { Gives (spec.plus at a.now b.now) result }
 {
-    let proxy = is_proxy(&a) || is_proxy(&b);
-    match (a, b) {
-        (Value::Long(a), Value::Long(b)) => Ok(Value::Long(a.wrapping_add(b))),
-        (Value::Str(a), Value::Str(b)) => text(joined(a, &b)?),
-        _ => Err(refused(at, proxy)),
+    match operators::plus(alloc, &operand(a), &operand(b))? {
+        Added::Long(sum) => Ok(Value::Long(sum)),
+        Added::Str(text) => Ok(Value::Str(SharedText::of(alloc, text)?)),
+        Added::WrongKind => Err(refused(at, is_proxy(a) || is_proxy(b))),
+        Added::TooLong => Err(Stop::Fails(Reason::TextTooLong)),
     }
-}
-
-fn joined(a: Text, b: &Text) -> Result<Text, Memory>
-    ensures { IfOk result (λ t. t ≡ spec.joined a b.now) }
-{
-    let mut text = a.into_string();
-    text.push_str(b.as_str())?;
-    Ok(Text::from_string(text))
 }
 
 /// Whether the first number is less than the second.
 pub fn less(at: u32, a: &Value, b: &Value) -> Result<Value, Stop>
     ensures { Gives (spec.less at a.now b.now) result }
 {
-    match (a, b) {
-        (Value::Long(a), Value::Long(b)) => Ok(Value::Bool(*a < *b)),
-        _ => Err(refused(at, is_proxy(a) || is_proxy(b))),
+    match operators::less(&operand(a), &operand(b)) {
+        Some(is_less) => Ok(Value::Bool(is_less)),
+        None => Err(refused(at, is_proxy(a) || is_proxy(b))),
     }
 }
 
+#[tactic(auto, unfolding(crate::specs::Operations::seen))]
 fn same(a: &Value, b: &Value) -> bool
     ensures { result ≡ spec.same_at (out-Value a.now) (out-Value b.now) }
 {
     match (a, b) {
-        (Value::Null, Value::Null) => true,
-        (Value::Bool(a), Value::Bool(b)) => *a == *b,
-        (Value::Long(a), Value::Long(b)) => *a == *b,
-        (Value::Str(a), Value::Str(b)) => a.as_str() == b.as_str(),
         (Value::List(a, _), Value::List(b, _)) => a.step == b.step && a.k == b.k,
         (Value::Bean(a, _, _), Value::Bean(b, _, _)) => a.step == b.step && a.k == b.k,
-        _ => false,
+        _ => same_plain(&operand(a), &operand(b)),
     }
 }
 
@@ -101,9 +103,9 @@ pub fn equal(at: u32, a: &Value, b: &Value) -> Result<Value, Stop>
 pub fn truth(at: u32, value: &Value) -> Result<bool, Stop>
     ensures { Gives (spec.truth at value.now) result }
 {
-    match value {
-        Value::Bool(b) => Ok(*b),
-        _ => Err(refused(at, is_proxy(value))),
+    match operators::truth(&operand(value)) {
+        Some(truth) => Ok(truth),
+        None => Err(refused(at, is_proxy(value))),
     }
 }
 
@@ -111,27 +113,10 @@ pub fn truth(at: u32, value: &Value) -> Result<bool, Stop>
 pub fn count(at: u32, value: &Value) -> Result<Value, Stop>
     ensures { Gives (spec.count at value.now) result }
 {
-    match value {
-        Value::Str(text) => Ok(Value::Long(count_chars(text.as_str()) as i64)),
-        Value::List(_, parts) => Ok(Value::Long(parts.as_slice().len() as i64)),
-        _ => Err(refused(at, is_proxy(value))),
+    match len(&operand(value)) {
+        Some(count) => Ok(Value::Long(count)),
+        None => Err(refused(at, is_proxy(value))),
     }
-}
-
-fn count_chars(text: &str) -> usize
-    ensures value { result ≡ length (chars text.now) }
-    ensures small { result < 2 ^ 63 }
-{
-    let _size = size_of_text(text);
-    text.chars().count()
-}
-
-/// No text fills half of memory.
-fn size_of_text(text: &str) -> usize
-    ensures value { result ≡ length text.now }
-    ensures small { result < 2 ^ 63 }
-{
-    text.len()
 }
 
 /// The elements of a list.
@@ -145,25 +130,13 @@ pub fn elements(at: u32, value: Value) -> Result<Shared<Value>, Stop>
 }
 
 /// The failure that says this text.
-pub fn said(at: u32, value: Value) -> Result<(), Stop>
+pub fn said(alloc: Global, at: u32, value: Value) -> Result<(), Stop>
     ensures { Gives (spec.said at value) result }
 {
     match value {
-        Value::Str(text) => Err(Stop::Fails(Reason::Said(text))),
+        Value::Str(text) => Err(Stop::Fails(Reason::Said(text.into_text(alloc)?))),
         other => Err(refused(at, is_proxy(&other))),
     }
-}
-
-/// The value of the first field of that name.
-fn part_of<'a>(name: &str, fields: &[Text], parts: &'a [Value]) -> Option<&'a Value>
-    ensures { option_copied result ≡ part_of name.now fields.now parts.now }
-{
-    for i in 0..fields.len().min(parts.len()) {
-        if fields[i].as_str() == name {
-            return Some(&parts[i]);
-        }
-    }
-    None
 }
 
 /// The field of a bean.
@@ -181,7 +154,7 @@ pub fn field(
         return Err(refused(at, is_proxy(value)));
     };
     match part_of(name.as_str(), names.fields_of(*bean), parts.as_slice()) {
-        Some(part) => Ok(part.try_copy(alloc)?),
+        Some(part) => Ok(part.try_copy()?),
         None => Err(Stop::Fails(Reason::Kind { at })),
     }
 }
@@ -242,7 +215,7 @@ fn arranged_copies(
     let mut values = Seq::with_capacity(alloc, fields.len())?;
     for field in fields {
         let value = match newest(written, field.as_str()) {
-            Some(value) => value.try_copy(alloc)?,
+            Some(value) => value.try_copy()?,
             None => Value::Null,
         };
         values.push(value)?;

@@ -132,7 +132,7 @@ fn copy_puts(alloc: Global, puts: &[(u32, Value)]) -> Result<Seq<(u32, Value)>, 
 {
     let mut copies = Seq::with_capacity(alloc, puts.len())?;
     for put in puts {
-        let value = put.1.try_copy(alloc)?;
+        let value = put.1.try_copy()?;
         copies.push((put.0, value))?;
     }
     Ok(copies)

@@ -1,6 +1,6 @@
 ghost use Rattle.std.specs.Prelude.{◌≡◌, [], ◌∷◌, ◌++◌, length, take, OnOk, OnErr};
 ghost use Rattle.std.specs.Option.{option_copied};
-ghost use Rattle.step_state.specs.Found.{found};
+ghost use Rattle.operators.specs.Found.{found};
 
 use crate::finding::newest;
 use item_types::{Memory, Text, Value};

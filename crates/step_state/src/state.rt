@@ -141,11 +141,11 @@ impl State {
     }
 
     /// The newest value of a name.
-    pub fn look(&self, alloc: Global, name: &Text) -> Result<Value, Stop>
+    pub fn look(&self, name: &Text) -> Result<Value, Stop>
         ensures { Evals (names_in.look name.now self.now) result self.now }
     {
         match self.scope.newest(name.as_str()) {
-            Some(value) => Ok(value.try_copy(alloc)?),
+            Some(value) => Ok(value.try_copy()?),
             None => Ok(Value::Null),
         }
     }

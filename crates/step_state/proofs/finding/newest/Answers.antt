@@ -1,6 +1,6 @@
 use Rattle.std.proofs.Common.{◌≡◌, ◌+◌, ◌-◌, length, get_or, true, false, sym, ap, ◌∙◌, arith}
 use Rattle.std.specs.Str.{bytes_eq}
-use Rattle.step_state.proofs.Newest.{newest_next, newest_there}
+use Rattle.operators.proofs.CallerLemmas.{newest_next, newest_there}
 use Rattle.step_state.proofs.finding.newest.Goals as goal
 
 pub returns-then-eq : goal.returns-then-eq

@@ -1,5 +1,5 @@
 use Rattle.std.proofs.Common.{◌≡◌, ◌-◌, take}
-use Rattle.step_state.specs.Found.{found}
+use Rattle.operators.specs.Found.{found}
 use Rattle.step_state.proofs.finding.newest.Given as goal
 
 abbrev pub invariant-loop-i : goal.invariant-loop-i

@@ -2,7 +2,7 @@ use Rattle.std.proofs.Common.{◌≡◌, ◌+◌, drop, true, None, sym, ap, ◌
 use Rattle.std.proofs.lemmas.Bool.{not-false}
 use Rattle.std.proofs.lemmas.List.{take_rest}
 use Rattle.std.specs.Str.{bytes_eq}
-use Rattle.step_state.specs.Found.{found}
+use Rattle.operators.specs.Found.{found}
 use Rattle.step_state.proofs.InOrder.{in_order_more, none_there}
 use Rattle.step_state.proofs.operation.is_in_order.Goals as goal
 
