@@ -3,9 +3,7 @@ use Rattle.std.proofs.Common.{◌≡◌, ℕ, ◌≤◌, ◌+◌, Bool, true, fa
 use Rattle.std.specs.List.{All}
 use Rattle.std.proofs.lemmas.Bool.Decides.{nat_tests}
 use Rattle.std.proofs.lemmas.List.Elements.{All-same}
-use Rattle.item_types.specs.Bounds.{IsBounded}
 use Rattle.item_types.specs.Measure.{cells, text_len, depth}
-use Rattle.item_types.specs.declared.value.Proxy.{Proxy}
 use Rattle.item_types.specs.declared.value.NodeId.{NodeId}
 use Rattle.item_types.specs.declared.value.Value.{Value}
 use Rattle.item_types.specs.declared.value.Value.TheVariants as value
@@ -14,7 +12,7 @@ use Rattle.step_state.specs.declared.state.State.{State}
 use Rattle.step_state.specs.Evaluation.{Checked, Eval, and_then, lift}
 use Rattle.step_state.specs.Spending.{made, made_list, made_bean}
 use Rattle.step_eval.specs.NextNode.{IsNextNode}
-use Rattle.step_eval.proofs.Origins.{From, NamedFrom, from_List, from_Bean}
+use Rattle.step_eval.proofs.Closed.{IsClosed, NamedHave}
 
 -- where the evaluation comes to its end, its value and state are so
 abbrev pub Leaves : {A : Type 0} → (A → State → Type 0) → Checked (A × State) → Type 0
@@ -61,14 +59,20 @@ stays_on s t u h k = record {
 not_above : (n d : ℕ) → nat_lt n d ≡ false → d ≤ n
 not_above n d h = grind (arith, nat_tests)
 
-module _ (R : Proxy → Type 0) where
-  -- R holds of each proxy in the value, where it does in the values of the names in scope
+-- the sums of a value are within the bounds
+pub record IsSized (v : Value) : Type 0 where
+  pub depth_in : depth v ≤ 64
+  pub cells_in : cells v ≤ 65536
+  pub text_in : text_len v ≤ 1048576
+
+module _ (P : Value → Type 0) (C : IsClosed P) where
+  -- P holds of the value, where it does of the values of the names in scope
   abbrev pub Comes : State → Value → Type 0
-  Comes s v = NamedFrom R s.scope → From R v
+  Comes s v = NamedHave P C s.scope → P v
 
   -- a value within the bounds, and the state before
   pub record IsCounted (s : State) (v : Value) (t : State) : Type 0 where
-    pub bounded : IsBounded v
+    pub sized : IsSized v
     pub comes : Comes s v
     pub still : Stays s t
 
@@ -79,10 +83,10 @@ module _ (R : Proxy → Type 0) where
 
   -- the same after what left the state
   pub comes_before : (s t : State) (v : Value) → Stays s t → Comes t v → Comes s v
-  comes_before s t v h k m = k (All-same (λ e. From R e.1) t.scope s.scope h.same_scope m)
+  comes_before s t v h k m = k (All-same (λ e. P e.1) t.scope s.scope h.same_scope m)
 
   pub comes_after : (s t : State) (v : Value) → Stays s t → Comes s v → Comes t v
-  comes_after s t v h k m = k (All-same (λ e. From R e.1) s.scope t.scope (sym h.same_scope) m)
+  comes_after s t v h k m = k (All-same (λ e. P e.1) s.scope t.scope (sym h.same_scope) m)
 
   made_at : (at : ℕ) (v : Value) (s : State) → Comes s v → (deep many much : Bool) → nat_lt 64 (depth v) ≡ deep → nat_lt 65536 (s.cells + cells v) ≡ many → nat_lt 1048576 (s.text + text_len v) ≡ much →
       Leaves (IsCounted s) (if deep then Err (TooDeep at)
@@ -97,7 +101,7 @@ module _ (R : Proxy → Type 0) where
       let m' : s.cells + cells v ≤ 65536 = not_above 65536 (s.cells + cells v) m in
       let u' : s.text + text_len v ≤ 1048576 = not_above 1048576 (s.text + text_len v) u in
       record {
-        bounded = record { depth_in = d'; cells_in = omega arith; text_in = omega arith };
+        sized = record { depth_in = d'; cells_in = omega arith; text_in = omega arith };
         comes = c;
         still = record { same_puts = refl; same_calls = refl; same_call_cells = refl; same_call_text = refl; same_scope = refl; more_nodes = omega arith };
       }
@@ -107,7 +111,7 @@ module _ (R : Proxy → Type 0) where
   made_counted at v s c = made_at at v s c (nat_lt 64 (depth v)) (nat_lt 65536 (s.cells + cells v)) (nat_lt 1048576 (s.text + text_len v)) refl refl refl
 
   pub counted_after : (s t u : State) (v : Value) → Stays s t → IsCounted t v u → IsCounted s v u
-  counted_after s t u v h k = record { bounded = k.bounded; comes = comes_before s t v h k.comes; still = stays_on s t u h k.still }
+  counted_after s t u v h k = record { sized = k.sized; comes = comes_before s t v h k.comes; still = stays_on s t u h k.still }
 
   pub held_after : (s t u : State) (v : Value) → Stays s t → IsHeld t v u → IsHeld s v u
   held_after s t u v h k = record { comes = comes_before s t v h k.comes; still = stays_on s t u h k.still }
@@ -115,17 +119,17 @@ module _ (R : Proxy → Type 0) where
   pub made_after : (at : ℕ) (v : Value) (s t : State) → Stays s t → Comes s v → Leaves (IsCounted s) (made at v t)
   made_after at v s t h c = weaker (IsCounted t) (IsCounted s) (made at v t) (λ w u k. counted_after s t u w h k) (made_counted at v t (comes_after s t v h c))
 
-  pub list_counted : (at step : ℕ) (parts : List Value) (s t : State) → Stays s t → (NamedFrom R s.scope → All (From R) parts) → Leaves (IsCounted s) (made_list at step parts t)
+  pub list_counted : (at step : ℕ) (parts : List Value) (s t : State) → Stays s t → (NamedHave P C s.scope → All P parts) → Leaves (IsCounted s) (made_list at step parts t)
   unfolding made_list
   list_counted at step parts s t h c =
       made_after at _ s (record t { nodes = t.nodes + 1 })
-      (record { same_puts = h.same_puts; same_calls = h.same_calls; same_call_cells = h.same_call_cells; same_call_text = h.same_call_text; same_scope = h.same_scope; more_nodes = omega (arith, h.more_nodes) }) (λ m. from_List R _ parts (c m))
+      (record { same_puts = h.same_puts; same_calls = h.same_calls; same_call_cells = h.same_call_cells; same_call_text = h.same_call_text; same_scope = h.same_scope; more_nodes = omega (arith, h.more_nodes) }) (λ m. C.list _ parts (c m))
 
-  pub bean_counted : (at step bean : ℕ) (parts : List Value) (s t : State) → Stays s t → (NamedFrom R s.scope → All (From R) parts) → Leaves (IsCounted s) (made_bean at step bean parts t)
+  pub bean_counted : (at step bean : ℕ) (parts : List Value) (s t : State) → Stays s t → (NamedHave P C s.scope → All P parts) → Leaves (IsCounted s) (made_bean at step bean parts t)
   unfolding made_bean
   bean_counted at step bean parts s t h c =
       made_after at _ s (record t { nodes = t.nodes + 1 })
-      (record { same_puts = h.same_puts; same_calls = h.same_calls; same_call_cells = h.same_call_cells; same_call_text = h.same_call_text; same_scope = h.same_scope; more_nodes = omega (arith, h.more_nodes) }) (λ m. from_Bean R _ bean parts (c m))
+      (record { same_puts = h.same_puts; same_calls = h.same_calls; same_call_cells = h.same_call_cells; same_call_text = h.same_call_text; same_scope = h.same_scope; more_nodes = omega (arith, h.more_nodes) }) (λ m. C.bean _ bean parts (c m))
 
 -- a value that is counted, unless one of these limits is passed
 abbrev tested : ℕ → Value → State → Bool → Bool → Bool → Checked (Value × State)

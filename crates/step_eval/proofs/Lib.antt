@@ -1,8 +1,11 @@
+pub mod Closed
 pub mod FineExpressions
 pub mod Forms
+pub mod Kept
 pub mod Leaves
 pub mod Origins
 pub mod Recorded
+pub mod Short
 pub mod Sound
 pub mod SteadyStatements
 pub mod Steps

@@ -15,7 +15,7 @@ use Rattle.step_eval.specs.Setting.{Setting}
 use Rattle.step_state.specs.Spending.{record_call}
 use Rattle.step_eval.specs.Statements.{fits_phase, recorded, called}
 use Rattle.step_eval.proofs.Leaves.{Leaves, in_turn, lifted, weaker}
-use Rattle.step_eval.proofs.FineExpressions.{AreCounted, all_counted, fine_expressions, Any, any_taken}
+use Rattle.step_eval.proofs.FineExpressions.{AreCounted, all_counted, fine_expressions, Any, any_closed, any_taken}
 
 -- the number is that of the last call, which was recorded now
 record IsLast (i : Invoke) (keeps : Bool) (args : List Value) (s : State) (j : ℕ) (t : State) : Type 0 where
@@ -46,8 +46,8 @@ recorded_next cx phase i keeps args s o is = subst (λ (p : Option Phase). Leave
 
 called_next : (cx : Setting) (phase : Phase) (i : Invoke) (keeps : Bool) (s : State) → cx.decl.phase ≡ Some phase → Leaves (IsNextCall cx.step phase i keeps s) (called cx i keeps s)
 unfolding called
-called_next cx phase i keeps s is = in_turn (AreCounted Any s) (IsNextCall cx.step phase i keeps s) (all (map (meaning cx) i.args) s) (recorded cx cx.decl.phase i keeps)
-    (all_counted Any (map (meaning cx) i.args) (fine_expressions Any cx (any_taken cx) i.args) s)
+called_next cx phase i keeps s is = in_turn (AreCounted Any any_closed s) (IsNextCall cx.step phase i keeps s) (all (map (meaning cx) i.args) s) (recorded cx cx.decl.phase i keeps)
+    (all_counted Any any_closed (map (meaning cx) i.args) (fine_expressions Any any_closed cx (any_taken cx) i.args) s)
     (λ vs t k. weaker (IsNextCall cx.step phase i keeps t) (IsNextCall cx.step phase i keeps s) (recorded cx cx.decl.phase i keeps vs t)
     (λ v u m. record {
       args = m.args;

@@ -1,9 +1,8 @@
--- A statement keeps the names that were in scope before it, and what it produces and records is within the bounds.
+-- A statement keeps the names that were in scope before it, and takes no node back.
 use Rattle.std.proofs.Common.{◌≡◌, ℕ, ◌≤◌, Bool, true, false, nat_lt, ◌+◌, ◌||◌, if◌then◌else◌, List, [], ◌∷◌, ◌++◌, map, sum, length, take, slice_get, Option, Some, None, Ok, Err, refl, sym, ap, subst, ◌∙◌, append_assoc, append-nil, arith}
 use Rattle.std.specs.List.{All}
 use Rattle.std.proofs.Math.Seq.{take-append_seam}
 use Rattle.std.proofs.lemmas.List.Elements.{All-nil, All-push, All-same}
-use Rattle.item_types.specs.Bounds.{IsBounded}
 use Rattle.item_types.specs.Measure.{cells, text_len}
 use Rattle.item_types.specs.declared.decl.Names.{Names}
 use Rattle.item_types.specs.declared.step.Phase.{Phase}
@@ -17,7 +16,6 @@ use Rattle.syntax_tree.specs.declared.tree.Stmt.{Stmt, roll-Stmt, map-Stmt, ind-
 use Rattle.syntax_tree.specs.declared.tree.Stmt.TheOpen.{Stmt-F}
 use Rattle.syntax_tree.specs.declared.tree.Stmt.TheOpen as form
 use Rattle.step_eval.specs.BodyMeaning.{taking, body_of, ended, meaning_of_a_body}
-use Rattle.step_eval.specs.BoundedOutcome.{HasBoundedValues}
 use Rattle.step_state.specs.declared.outcome.Inputs.{Inputs}
 use Rattle.step_state.specs.declared.outcome.Outcome.TheVariants.{Done}
 use Rattle.step_state.specs.declared.outcome.Reason.TheVariants.{TooManyTurns, TooManyPut, TooManyRecorded}
@@ -31,28 +29,21 @@ use Rattle.step_state.specs.Spending.{turn, fits_item, keep_put, put, record_cal
 use Rattle.step_eval.specs.Statements.{Doing, run, block, in_turn, turns, fits_phase, recorded, called, stmt_step, doing}
 use Rattle.step_eval.proofs.Leaves.{Leaves, lifted, weaker, Stays, IsCounted}
 use Rattle.step_eval.proofs.Leaves as left
-use Rattle.step_eval.proofs.FineExpressions.{AreCounted, all_counted, fine_expression, fine_expressions, Any, any_taken}
+use Rattle.step_eval.proofs.FineExpressions.{AreCounted, all_counted, fine_expression, fine_expressions, Any, any_closed, any_taken}
 
--- what is produced and recorded is within the bounds
-pub record IsKept (s : State) : Type 0 where
-  pub puts_in : All (λ p. IsBounded p.1) s.puts
-  pub calls_in : All (λ c. All IsBounded c.args) s.calls
-
--- the names in scope before are still there, the bounds are kept, and no node is taken back
+-- the names in scope before are still there, and no node is taken back
 pub record Goes (s t : State) : Type 0 where
   pub more : List (List ℕ × Value)
   pub extends : t.scope ≡ s.scope ++ more
-  pub keeps : IsKept s → IsKept t
   pub more_nodes : s.nodes ≤ t.nodes
 
 goes : (s : State) → Goes s s
-goes s = record { more = []; extends = sym (append-nil s.scope); keeps = λ k. k; more_nodes = omega arith }
+goes s = record { more = []; extends = sym (append-nil s.scope); more_nodes = omega arith }
 
 goes_on : (s t u : State) → Goes s t → Goes t u → Goes s u
 goes_on s t u h k = record {
   more = h.more ++ k.more;
   extends = k.extends ∙ (ap (λ (l : List (List ℕ × Value)). l ++ k.more) h.extends ∙ append_assoc s.scope h.more k.more);
-  keeps = λ m. k.keeps (h.keeps m);
   more_nodes = omega (arith, h.more_nodes, k.more_nodes);
 }
 
@@ -62,10 +53,6 @@ stayed s t h = record {
   more = [];
   more_nodes = h.more_nodes;
   extends = h.same_scope ∙ sym (append-nil s.scope);
-  keeps = λ k. record {
-    puts_in = All-same (λ p. IsBounded p.1) t.puts s.puts h.same_puts k.puts_in;
-    calls_in = All-same (λ c. All IsBounded c.args) t.calls s.calls h.same_calls k.calls_in;
-  };
 }
 
 pub record IsSteady (d : Doing) : Type 0 where
@@ -84,17 +71,17 @@ lift_goes o s = lifted (λ a t. Goes s t) o s (λ a. goes s)
 
 turn_goes : (s : State) → Leaves (λ u t. Goes s t) (turn s)
 turn_goes s = elim (nat_lt s.turns 100000) as (λ b. Leaves (λ (u : Unit {0}) t. Goes s t) (if b then Ok (tt, record s { turns = s.turns + 1 }) else Err TooManyTurns))
-    [ true ↦ record { more = []; more_nodes = omega arith; extends = sym (append-nil s.scope); keeps = λ k. record { puts_in = k.puts_in; calls_in = k.calls_in } } | false ↦ tt ]
+    [ true ↦ record { more = []; more_nodes = omega arith; extends = sym (append-nil s.scope) } | false ↦ tt ]
 
 -- a statement's turn comes first
 after_turn : {A : Type 0} (p : Eval A) (s : State) → ((t : State) → Leaves (λ a u. Goes t u) (p t)) → Leaves (λ a u. Goes s u) (and_then (turn s) (λ r. p r.1))
 after_turn p s h = then_steady turn (λ u. p) s (turn_goes s) (λ u t. h t)
 
 bind_goes : (name : List ℕ) (v : Value) (s : State) → Leaves (λ u t. Goes s t) (bind name v s)
-bind_goes name v s = record { more = (name, v) ∷ []; more_nodes = omega arith; extends = refl; keeps = λ k. record { puts_in = k.puts_in; calls_in = k.calls_in } }
+bind_goes name v s = record { more = (name, v) ∷ []; more_nodes = omega arith; extends = refl }
 
-keep_put_goes : (item : ℕ) (v : Value) (s : State) → IsBounded v → Leaves (λ u t. Goes s t) (keep_put item v s)
-keep_put_goes item v s h = elim (nat_lt 4096 (s.put_cells + cells v) || nat_lt 131072 (s.put_text + text_len v)) as
+keep_put_goes : (item : ℕ) (v : Value) (s : State) → Leaves (λ u t. Goes s t) (keep_put item v s)
+keep_put_goes item v s = elim (nat_lt 4096 (s.put_cells + cells v) || nat_lt 131072 (s.put_text + text_len v)) as
     (λ b. Leaves (λ (u : Unit {0}) t. Goes s t)
     (if b then Err TooManyPut else Ok (tt, record s { puts = s.puts ++ (item, v) ∷ []; put_cells = s.put_cells + cells v; put_text = s.put_text + text_len v }))) [
       | true ↦ tt
@@ -102,18 +89,17 @@ keep_put_goes item v s h = elim (nat_lt 4096 (s.put_cells + cells v) || nat_lt 1
         more = [];
         more_nodes = omega arith;
         extends = sym (append-nil s.scope);
-        keeps = λ k. record { puts_in = All-push (λ p. IsBounded p.1) s.puts (item, v) k.puts_in h; calls_in = k.calls_in };
       }
     ]
 
-put_goes : (names : Names) (item : ℕ) (v : Value) (s : State) → IsBounded v → Leaves (λ u t. Goes s t) (put names item v s)
+put_goes : (names : Names) (item : ℕ) (v : Value) (s : State) → Leaves (λ u t. Goes s t) (put names item v s)
 unfolding put
-put_goes names item v s h = then_steady (lift (fits_item names item v s.puts (slice_get names.items item))) (λ u. keep_put item v) s
-    (lift_goes (fits_item names item v s.puts (slice_get names.items item)) s) (λ u t. keep_put_goes item v t h)
+put_goes names item v s = then_steady (lift (fits_item names item v s.puts (slice_get names.items item))) (λ u. keep_put item v) s
+    (lift_goes (fits_item names item v s.puts (slice_get names.items item)) s) (λ u t. keep_put_goes item v t)
 
-record_goes : (recorder method : ℕ) (args : List Value) (keeps : Bool) (s : State) → All IsBounded args → Leaves (λ j t. Goes s t) (record_call recorder method args keeps s)
+record_goes : (recorder method : ℕ) (args : List Value) (keeps : Bool) (s : State) → Leaves (λ j t. Goes s t) (record_call recorder method args keeps s)
 unfolding record_call
-record_goes recorder method args keeps s h = elim (nat_lt 8192 (s.call_cells + (1 + sum (map cells args))) || nat_lt 131072 (s.call_text + sum (map text_len args))) as
+record_goes recorder method args keeps s = elim (nat_lt 8192 (s.call_cells + (1 + sum (map cells args))) || nat_lt 131072 (s.call_text + sum (map text_len args))) as
     (λ b. Leaves (λ (j : ℕ) t. Goes s t) (if b then Err TooManyRecorded
     else Ok (
       length s.calls,
@@ -128,46 +114,36 @@ record_goes recorder method args keeps s h = elim (nat_lt 8192 (s.call_cells + (
         more = [];
         more_nodes = omega arith;
         extends = sym (append-nil s.scope);
-        keeps = λ k. record {
-          puts_in = k.puts_in;
-          calls_in = All-push (λ c. All IsBounded c.args) s.calls (record { recorder = recorder; method = method; args = args; keeps = keeps }) k.calls_in h;
-        };
       }
     ]
 
-recorded_goes : (cx : Setting) (phase : Option Phase) (i : Invoke) (keeps : Bool) (args : List Value) (s : State) → All IsBounded args → Leaves (λ v t. Goes s t) (recorded cx phase i keeps args s)
+recorded_goes : (cx : Setting) (phase : Option Phase) (i : Invoke) (keeps : Bool) (args : List Value) (s : State) → Leaves (λ v t. Goes s t) (recorded cx phase i keeps args s)
 unfolding recorded
-recorded_goes cx None i keeps args s h = goes s
-recorded_goes cx (Some phase) i keeps args s h =
+recorded_goes cx None i keeps args s = goes s
+recorded_goes cx (Some phase) i keeps args s =
     then_steady (lift (fits_phase phase args) >> record_call i.recorder i.method args keeps) (λ j. pure (value.Returned (record { step = cx.step; call = j; phase = phase }))) s
     (then_steady (lift (fits_phase phase args)) (λ u. record_call i.recorder i.method args keeps) s (lift_goes (fits_phase phase args) s)
-    (λ u t. record_goes i.recorder i.method args keeps t h))
+    (λ u t. record_goes i.recorder i.method args keeps t))
     (λ j t. goes t)
 
 called_goes : (cx : Setting) (i : Invoke) (keeps : Bool) (s : State) → Leaves (λ v t. Goes s t) (called cx i keeps s)
 unfolding called
-called_goes cx i keeps s = left.in_turn (AreCounted Any s) (λ v t. Goes s t) (all (map (meaning cx) i.args) s) (recorded cx cx.decl.phase i keeps)
-    (all_counted Any (map (meaning cx) i.args) (fine_expressions Any cx (any_taken cx) i.args) s)
-    (λ vs t k. goes_by (recorded cx cx.decl.phase i keeps vs) s t (stayed s t k.still) (recorded_goes cx cx.decl.phase i keeps vs t k.bounded))
+called_goes cx i keeps s = left.in_turn (AreCounted Any any_closed s) (λ v t. Goes s t) (all (map (meaning cx) i.args) s) (recorded cx cx.decl.phase i keeps)
+    (all_counted Any any_closed (map (meaning cx) i.args) (fine_expressions Any any_closed cx (any_taken cx) i.args) s)
+    (λ vs t k. goes_by (recorded cx cx.decl.phase i keeps vs) s t (stayed s t k.still) (recorded_goes cx cx.decl.phase i keeps vs t))
 
--- a value within the bounds, after a turn
-record IsValue (s : State) (v : Value) (t : State) : Type 0 where
-  bounded : IsBounded v
-  going : Goes s t
+valued : (cx : Setting) (e : Expr) (s : State) → Leaves (λ v t. Goes s t) (and_then (turn s) (λ r. value_of cx e r.1))
+valued cx e s = left.in_turn (λ u t. Goes s t) (λ v t. Goes s t) (turn s) (λ u. value_of cx e) (turn_goes s)
+    (λ u t k. weaker (IsCounted Any any_closed t) (λ v w. Goes s w) (value_of cx e t) (λ v w m. goes_on s t w k (stayed t w m.still)) ((fine_expression Any any_closed cx (any_taken cx) e).fine t))
 
-valued : (cx : Setting) (e : Expr) (s : State) → Leaves (IsValue s) (and_then (turn s) (λ r. value_of cx e r.1))
-valued cx e s = left.in_turn (λ u t. Goes s t) (IsValue s) (turn s) (λ u. value_of cx e) (turn_goes s)
-    (λ u t k. weaker (IsCounted Any t) (IsValue s) (value_of cx e t) (λ v w m. record { bounded = m.bounded; going = goes_on s t w k (stayed t w m.still) }) ((fine_expression Any cx (any_taken cx) e).fine t))
-
-with_value : {A : Type 0} (cx : Setting) (e : Expr) (f : Value → Eval A) (s : State) → ((v : Value) (t : State) → IsBounded v → Leaves (λ a u. Goes t u) (f v t)) →
+with_value : {A : Type 0} (cx : Setting) (e : Expr) (f : Value → Eval A) (s : State) → ((v : Value) (t : State) → Leaves (λ a u. Goes t u) (f v t)) →
     Leaves (λ a u. Goes s u) (and_then (and_then (turn s) (λ r. value_of cx e r.1)) (λ r. f r.0 r.1))
-with_value cx e f s h = left.in_turn (IsValue s) (λ a u. Goes s u) (and_then (turn s) (λ r. value_of cx e r.1)) f (valued cx e s)
-    (λ v t k. goes_by (f v) s t k.going (h v t k.bounded))
+with_value cx e f s h = left.in_turn (λ v t. Goes s t) (λ a u. Goes s u) (and_then (turn s) (λ r. value_of cx e r.1)) f (valued cx e s)
+    (λ v t k. goes_by (f v) s t k (h v t))
 
 -- after a block the names in scope are those before it
 pub record Ends (s t : State) : Type 0 where
   pub same_scope : t.scope ≡ s.scope
-  pub keeps : IsKept s → IsKept t
   pub more_nodes : s.nodes ≤ t.nodes
 
 pub scoped_ends : (d : Doing) (s : State) → Leaves (λ u t. Goes s t) (d s) → Leaves (λ u t. Ends s t) (scoped d s)
@@ -175,11 +151,10 @@ scoped_ends d s h = left.in_turn (λ u t. Goes s t) (λ u t. Ends s t) (d s) (λ
     (λ u t k. record {
       same_scope = ap (λ (l : List (List ℕ × Value)). take (length s.scope) l) k.extends ∙ take-append_seam s.scope k.more;
       more_nodes = k.more_nodes;
-      keeps = λ m. record { puts_in = (k.keeps m).puts_in; calls_in = (k.keeps m).calls_in };
     })
 
 ended_goes : (s t : State) → Ends s t → Goes s t
-ended_goes s t h = record { more = []; extends = h.same_scope ∙ sym (append-nil s.scope); keeps = h.keeps; more_nodes = h.more_nodes }
+ended_goes s t h = record { more = []; extends = h.same_scope ∙ sym (append-nil s.scope); more_nodes = h.more_nodes }
 
 scoped_goes : (d : Doing) (s : State) → Leaves (λ u t. Goes s t) (d s) → Leaves (λ u t. Goes s t) (scoped d s)
 scoped_goes d s h = weaker (λ u t. Ends s t) (λ u t. Goes s t) (scoped d s) (λ u t k. ended_goes s t k) (scoped_ends d s h)
@@ -215,31 +190,31 @@ turn_alone : IsSteady turn
 turn_alone = record { steady = turn_goes }
 
 layer : (cx : Setting) (y : Stmt-F (Known cx)) → IsSteady (stmt_step cx (map-Stmt Stmt Doing (doing cx) (map-Stmt (Known cx) Stmt (λ d. d.0) y)))
-layer cx (form.Let at name e) = record { steady = λ s. with_value cx e (bind name) s (λ v t h. bind_goes name v t) }
+layer cx (form.Let at name e) = record { steady = λ s. with_value cx e (bind name) s (λ v t. bind_goes name v t) }
 layer cx (form.LetCall at name i) = record { steady = λ s. then_steady (turn >> called cx i true) (bind name) s (after_turn (called cx i true) s (λ t. called_goes cx i true t)) (λ v t. bind_goes name v t) }
 layer cx (form.CallOf i) = record { steady = λ s. then_steady (turn >> called cx i false) (λ v. pure tt) s (after_turn (called cx i false) s (λ t. called_goes cx i false t)) (λ v t. goes t) }
-layer cx (form.Produce at item e) = record { steady = λ s. with_value cx e (put cx.names item) s (λ v t h. put_goes cx.names item v t h) }
+layer cx (form.Produce at item e) = record { steady = λ s. with_value cx e (put cx.names item) s (λ v t. put_goes cx.names item v t) }
 layer cx (form.For at name e ds) = record {
   steady = λ s.
       then_steady (turn >> value_of cx e >>= (λ v. lift (elements at v))) (λ vs. turns name vs (map (doing cx) (map (λ d. d.0) ds))) s
-      (with_value cx e (λ v. lift (elements at v)) s (λ v t h. lift_goes (elements at v) t))
+      (with_value cx e (λ v. lift (elements at v)) s (λ v t. lift_goes (elements at v) t))
       (λ vs t. turns_goes name vs (map (doing cx) (map (λ d. d.0) ds)) (known_steady cx ds) t);
 }
 layer cx (form.If at e ds None) = record {
   steady = λ s.
       then_steady (turn >> value_of cx e >>= (λ v. lift (truth at v))) (λ b. if b then block (map (doing cx) (map (λ d. d.0) ds)) else pure tt) s
-      (with_value cx e (λ v. lift (truth at v)) s (λ v t h. lift_goes (truth at v) t))
+      (with_value cx e (λ v. lift (truth at v)) s (λ v t. lift_goes (truth at v) t))
       (λ b t. elim b as (λ c. Leaves (λ u w. Goes t w) ((if c then block (map (doing cx) (map (λ d. d.0) ds)) else pure tt) t))
       [ true ↦ block_goes (map (doing cx) (map (λ d. d.0) ds)) (known_steady cx ds) t | false ↦ goes t ]);
 }
 layer cx (form.If at e ds (Some os)) = record {
   steady = λ s.
       then_steady (turn >> value_of cx e >>= (λ v. lift (truth at v))) (λ b. if b then block (map (doing cx) (map (λ d. d.0) ds)) else block (map (doing cx) (map (λ d. d.0) os))) s
-      (with_value cx e (λ v. lift (truth at v)) s (λ v t h. lift_goes (truth at v) t))
+      (with_value cx e (λ v. lift (truth at v)) s (λ v t. lift_goes (truth at v) t))
       (λ b t. elim b as (λ c. Leaves (λ u w. Goes t w) ((if c then block (map (doing cx) (map (λ d. d.0) ds)) else block (map (doing cx) (map (λ d. d.0) os))) t))
       [ true ↦ block_goes (map (doing cx) (map (λ d. d.0) ds)) (known_steady cx ds) t | false ↦ block_goes (map (doing cx) (map (λ d. d.0) os)) (known_steady cx os) t ]);
 }
-layer cx (form.FailWith at e) = record { steady = λ s. with_value cx e (λ v. lift (said at v)) s (λ v t h. lift_goes (said at v) t) }
+layer cx (form.FailWith at e) = record { steady = λ s. with_value cx e (λ v. lift (said at v)) s (λ v t. lift_goes (said at v) t) }
 layer cx (form.Print at e) = turn_alone
 layer cx (form.Return at e) = turn_alone
 layer cx (form.Add at e v) = turn_alone
@@ -260,22 +235,10 @@ steady_statements cx (d ∷ ds) = (steady_statement cx d, steady_statements cx d
 pub block_ends : (cx : Setting) (ds : List Stmt) (s : State) → Leaves (λ u t. Ends s t) (block (map (doing cx) ds) s)
 block_ends cx ds s = scoped_ends (run (map (doing cx) ds)) s (run_goes (map (doing cx) ds) (steady_statements cx ds) s)
 
-ended_bounded : (o : Checked (Unit {0} × State)) → Leaves (λ u t. Goes start t) o → HasBoundedValues (ended o)
-ended_bounded (Ok r) h = let k : IsKept r.1 = h.keeps (record { puts_in = All-nil (λ p. IsBounded p.1); calls_in = All-nil (λ c. All IsBounded c.args) }) in (k.puts_in, k.calls_in)
-ended_bounded (Err e) h = tt
-
 -- the count of nodes made never falls
 pub nodes_rise : (cx : Setting) (ds : List Stmt) (before after : State) → run (map (doing cx) ds) before ≡ Ok (tt, after) → before.nodes ≤ after.nodes
 nodes_rise cx ds before after e =
     (subst (λ (o : Checked (Unit {0} × State)). Leaves (λ u t. Goes before t) o) e (run_goes (map (doing cx) ds) (steady_statements cx ds) before)).more_nodes
-
--- each produced value and each argument of a recorded call is within the bounds
-pub outcome_is_bounded : (names : Names) (decl : StepDecl) (step : ℕ) (body : Body) (inputs : Inputs) → HasBoundedValues (meaning_of_a_body names decl step body inputs)
-outcome_is_bounded names decl step body inputs =
-    let cx : Setting = record { names = names; decl = decl; step = step; lists = inputs.lists } in
-    ended_bounded (body_of cx (map (doing cx) body.stmts) start)
-    (then_steady (lift (taking decl.consumes inputs.lists 0 0 0)) (λ u. run (map (doing cx) body.stmts)) start
-    (lift_goes (taking decl.consumes inputs.lists 0 0 0) start) (λ u t. run_goes (map (doing cx) body.stmts) (steady_statements cx body.stmts) t))
 
 -- what the evaluation of all statements leaves is what the body gives
 pub done_is : (cx : Setting) (ds xs : List Stmt) (s t : State) (u : Unit {0}) → s ≡ start → xs ≡ ds → body_of cx (map (doing cx) xs) s ≡ Ok (u, t) →

@@ -1,4 +1,6 @@
 ghost use Rattle.std.specs.Prelude.{◌≡◌, map, IfOk};
+ghost use Rattle.std.specs.List.{All};
+ghost use Rattle.item_types.specs.Bounds.{IsBounded};
 ghost use Rattle.step_eval.specs.BodyMeaning as spec;
 ghost use Rattle.step_eval.specs.BoundedOutcome.{HasBoundedValues};
 ghost use Rattle.step_state.specs.Evaluation.{Evals, Gives};
@@ -30,7 +32,7 @@ pub fn eval(
     inputs: &Inputs,
 ) -> Result<Outcome, Memory>
     ensures meaning { IfOk result (λ o. o ≡ spec.meaning_of_a_body names.now decl.now step body.now inputs.now) }
-    ensures bounded { IfOk result HasBoundedValues }
+    ensures bounded { All (λ values. All IsBounded values) inputs.now.lists → IfOk result HasBoundedValues }
 {
     let cx = Context {
         names,

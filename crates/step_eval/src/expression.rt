@@ -1,8 +1,7 @@
 // The value of an expression.
 
 ghost use Rattle.std.specs.Prelude.{◌≡◌, map, slice_index, IfOk};
-ghost use Rattle.step_state.specs.Evaluation.{Evals, Gives};
-ghost use Rattle.step_state.specs.Operations as operation;
+ghost use Rattle.step_state.specs.Evaluation.{Evals};
 ghost use Rattle.step_eval.specs.Expressions as spec;
 ghost use Rattle.step_eval.specs.Expressions.{meaning};
 ghost use Rattle.step_eval.specs.Taken.{taken, first_of};
@@ -46,21 +45,13 @@ pub fn first_token(cx: &Context<'_>, e: &Expr) -> u32
     }
 }
 
-/// A text of the body as a value.
-fn literal(alloc: Global, value: &Text) -> Result<Value, Stop>
-    ensures { Gives (operation.text value.now) result }
-{
-    let copy = value.try_copy(alloc)?;
-    text(copy)
-}
-
 /// The first value that was taken of the item, or null.
-fn first_taken(alloc: Global, cx: &Context<'_>, item: u32) -> Result<Value, Memory>
+fn first_taken(cx: &Context<'_>, item: u32) -> Result<Value, Memory>
     ensures { IfOk result (λ v. v ≡ first_of (taken cx.now item)) }
 {
     match cx.taken(item) {
         [] => Ok(Value::Null),
-        [first, ..] => first.try_copy(alloc),
+        [first, ..] => first.try_copy(),
     }
 }
 
@@ -95,15 +86,15 @@ pub fn value_of(alloc: Global, cx: &Context<'_>, state: &mut State, e: &Expr) ->
         Expr::Bool { at, value } => state.made(*at, Value::Bool(*value)),
         Expr::Long { at, value } => state.made(*at, Value::Long(*value)),
         Expr::Str { at, value } => {
-            let v = literal(alloc, value)?;
+            let v = text(alloc, value)?;
             state.made(*at, v)
         }
         Expr::Name { at, name } => {
-            let v = state.look(alloc, name)?;
+            let v = state.look(name)?;
             state.made(*at, v)
         }
         Expr::Get { at, item } => {
-            let v = first_taken(alloc, cx, *item)?;
+            let v = first_taken(cx, *item)?;
             state.made(*at, v)
         }
         Expr::All { at, item } => {
@@ -248,7 +239,7 @@ fn add_part(
     ensures { Evals (spec.added sum sign (meaning cx.now part.now) state.old) result state.new }
 {
     let v = value_of(alloc, cx, state, part)?;
-    plus(sign, sum, v)
+    plus(alloc, sign, &sum, &v)
 }
 
 #[cycle(expr)]

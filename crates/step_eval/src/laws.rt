@@ -1,4 +1,6 @@
 ghost use Rattle.std.specs.Prelude.{◌≡◌, ℕ, ◌≤◌, Bool, List, map, Ok, Some};
+ghost use Rattle.std.specs.List.{All};
+ghost use Rattle.item_types.specs.Bounds.{IsBounded};
 ghost use Rattle.item_types.specs.declared.decl.Names.{Names};
 ghost use Rattle.item_types.specs.declared.step.StepDecl.{StepDecl};
 ghost use Rattle.item_types.specs.declared.step.Phase.{Phase};
@@ -20,10 +22,11 @@ ghost use Rattle.syntax_tree.specs.declared.tree.Body.{Body};
 ghost use Rattle.syntax_tree.specs.declared.tree.Invoke.{Invoke};
 ghost use Rattle.syntax_tree.specs.declared.tree.Stmt.{Stmt};
 
-/// Each value that a body produces or hands to a recorded call has a depth of at most 64, at most
-/// 65,536 cells and at most 1,048,576 bytes of text.
+/// Where each value that was taken is within the bounds, each value that a body produces or hands
+/// to a recorded call has a depth of at most 64, at most 65,536 cells and at most 1,048,576 bytes
+/// of text, and no text in it has more than 65,535.
 pub const fn outcomes_are_bounded()
-    ensures { (names : Names) (decl : StepDecl) (step : ℕ) (body : Body) (inputs : Inputs) → HasBoundedValues (meaning_of_a_body names decl step body inputs) }
+    ensures { (names : Names) (decl : StepDecl) (step : ℕ) (body : Body) (inputs : Inputs) → All (λ values. All IsBounded values) inputs.lists → HasBoundedValues (meaning_of_a_body names decl step body inputs) }
 {}
 
 /// After a block the names in scope are those before it: the evaluation leaves no name of a block

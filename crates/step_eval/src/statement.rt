@@ -64,7 +64,7 @@ pub fn execute(alloc: Global, cx: &Context<'_>, state: &mut State, stmt: &Stmt) 
         }
         Stmt::FailWith { at, value } => {
             let v = value_of(alloc, cx, state, value)?;
-            said(*at, v)
+            said(alloc, *at, v)
         }
         Stmt::Print { .. }
         | Stmt::Return { .. }
@@ -136,7 +136,7 @@ fn execute_turn(
     ensures { Evals (scoped (spec.in_turn name.now value.now (map (doing cx.now) stmts.now)) state.old) result state.new }
 {
     let names = state.scope.len();
-    let value = value.try_copy(alloc)?;
+    let value = value.try_copy()?;
     state.bind(alloc, name, value)?;
     execute_all(alloc, cx, state, stmts)?;
     state.scope.truncate(names);
