@@ -1,0 +1,3 @@
+mod Methods
+mod Only
+mod Whole
