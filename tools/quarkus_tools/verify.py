@@ -9,7 +9,7 @@ import shutil
 import sys
 import tempfile
 
-from . import explain, graph, history_tool, lint, verify_editors, why
+from . import explain, graph, history_tool, lint, verify_editors, verify_wrapper, why
 from .program import run
 from .project import load
 
@@ -194,7 +194,17 @@ def verify_vscode(compare, room):
     compare.holds("the problem matcher finds no place", ("minus.toml", "12", "43", "", "`-1` may not stand here") in places and len(places) > 9)
 
 
-CHECKS = [verify_explain, verify_why, verify_lint, verify_graph, verify_history, verify_schema, verify_vscode]
+def verify_script(compare, room):
+    """The script `quarkus`, its completions and its manual page."""
+    compare.text("tools/stored/wrapper.txt", verify_wrapper.wrapper_texts(os.path.join(room, "wrapper")))
+    compare.text("tools/stored/completion.txt", verify_wrapper.completions(os.path.join(room, "completion")))
+    compare.holds("a shell can't read its completion", not verify_wrapper.wrong_syntax())
+    table, manual = verify_wrapper.statuses()
+    compare.holds("README.md and docs/quarkus.1 have different statuses", table == manual and len(table) > 9)
+    compare.holds("docs/quarkus.1 isn't right", not verify_wrapper.manual_faults())
+
+
+CHECKS = [verify_explain, verify_why, verify_lint, verify_graph, verify_history, verify_schema, verify_vscode, verify_script]
 
 
 def main(words):
