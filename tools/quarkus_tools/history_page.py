@@ -32,6 +32,8 @@ search.addEventListener("input", () => {
     if (box) box.classList.toggle("found", here && wanted !== "");
   }
 });
+search.value = decodeURIComponent(location.hash.slice(1));
+search.dispatchEvent(new Event("input"));
 for (const box of boxes) {
   box.addEventListener("click", () => {
     const step = document.getElementById(box.dataset.step);

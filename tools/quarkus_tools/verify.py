@@ -9,7 +9,7 @@ import shutil
 import sys
 import tempfile
 
-from . import explain, graph, history_tool, lint, verify_editors, verify_wrapper, why
+from . import explain, graph, history_tool, lint, verify_editors, verify_wrapper, watch, why
 from .program import run
 from .project import load
 
@@ -112,6 +112,7 @@ ASKED = {
     "conditions/override.toml": ["user", "Conf"],
     "overridable/app.toml": ["dflt", "Conf"],
     "weak/app.toml": ["w", "T"],
+    "shop/app.toml": ["core.plain_banner", "hello", "Feature", "datasource.read_pool", "openapi"],
     "web/app.toml": ["web.router", "metrics", "Route", "Metrics", "ruoter"],
 }
 
@@ -141,6 +142,7 @@ def verify_graph(compare, room):
         compare.text("tools/stored/web.svg", printed(graph.main, ["web/app.toml", "web/build.files/built"]))
         compare.text("tools/stored/web.dot", printed(graph.main, ["web/app.toml", "--dot"]))
         compare.text("tools/stored/failing_step.svg", printed(graph.main, ["failing_step/app.toml", "failing_step/build.files/built"]))
+        compare.text("docs/shop.svg", printed(graph.main, ["shop/app.toml", "shop/build.files/built"]))
         for file in project_files():
             picture = graph.Picture.of(load(file), [])
             compare.holds(f"the graph of {file} has no box for each step", graph.svg(picture).count("<g data-step=") == len(picture.chain.project.steps))
@@ -204,7 +206,25 @@ def verify_script(compare, room):
     compare.holds("docs/quarkus.1 isn't right", not verify_wrapper.manual_faults())
 
 
-CHECKS = [verify_explain, verify_why, verify_lint, verify_graph, verify_history, verify_schema, verify_vscode, verify_script]
+def verify_watch(compare, room):
+    """What tools/watch says of a file that is saved four times: right, changed, wrong, failing."""
+    here = os.path.join(room, "watch")
+    os.makedirs(here)
+    right = read(os.path.join(EXAMPLES, "guide", "app.toml"))
+    saves = [right, right.replace("8080", "9090"), right.replace('produces = ["Config"]', 'produces = ["Confg"]'), right.replace('Config("8080")', "Config(8080)")]
+    found = []
+    with folder(here):
+        watched = watch.Watch("app.toml", "out")
+        for number, text in enumerate(saves):
+            with open("app.toml", "w", encoding="utf-8") as file:
+                file.write(text)
+            os.utime("app.toml", (number, number))
+            compare.holds("tools/watch doesn't see that a file was saved", watched.is_saved() and not watched.is_saved())
+            found.append(f"== save {number + 1}\n{watched.look()}")
+    compare.text("tools/stored/watch.txt", "\n".join(found))
+
+
+CHECKS = [verify_explain, verify_why, verify_lint, verify_graph, verify_history, verify_schema, verify_vscode, verify_script, verify_watch]
 
 
 def main(words):
