@@ -7,6 +7,7 @@ Each line names a place and what stands there without need; the status is 1 wher
 from .chain import Chain
 from .project import load
 from .toml_tree import TomlFault
+from .words import both
 
 USAGE = "usage: tools/lint FILE.."
 
@@ -67,12 +68,19 @@ def items(project, chain):
 def unneeded(project, chain):
     found = []
     for step in project.steps:
-        both = {it.name for it in step.only_if} & {it.name for it in step.only_if_not}
-        if both:
-            found.append((step.start, f"{step.full_name} is never active: {min(both)} stands in both of its conditions"))
+        never = {it.name for it in step.only_if} & {it.name for it in step.only_if_not}
+        if never:
+            found.append((step.start, f"{step.full_name} is never active: {min(never)} stands in both of its conditions"))
         elif chain.is_active(step) and not chain.is_needed(step):
-            found.append((step.start, f"{step.full_name} isn't needed"))
+            found.append((step.start, f"{step.full_name} isn't needed{overridden(chain, step)}"))
     return found
+
+
+def overridden(chain, step):
+    """Who takes the place of a step in all that it produces."""
+    by = [it for entry in step.produces for it in chain.effective[entry.name]]
+    whole = by and step not in by
+    return f": overridden by {both(dict.fromkeys(it.full_name for it in by))}" if whole else ""
 
 
 def consumptions(project, step, reading):

@@ -9,7 +9,7 @@ import shutil
 import sys
 import tempfile
 
-from . import explain, graph, history_tool, lint, verify_editors, verify_wrapper, watch, why
+from . import explain, graph, history_tool, lint, verify_editors, verify_pages, verify_wrapper, watch, why
 from .program import run
 from .project import load
 
@@ -224,7 +224,27 @@ def verify_watch(compare, room):
     compare.text("tools/stored/watch.txt", "\n".join(found))
 
 
-CHECKS = [verify_explain, verify_why, verify_lint, verify_graph, verify_history, verify_schema, verify_vscode, verify_script, verify_watch]
+def verify_page_commands(compare, room):
+    """Each page's files and commands, by themselves in a folder of their own."""
+    for page in verify_pages.pages():
+        here = verify_pages.prepared(os.path.join(room, "pages", page.replace("/", "_")))
+        compare.text(page, verify_pages.tried(page, here))
+
+
+def verify_page_tables(compare, room):
+    """Tables and links of the pages."""
+    for what, wrong in (
+        ("refused bodies in docs/LANGUAGE.md", verify_pages.body_rows(room)),
+        ("wrong lines in docs/PROJECT_FILE.md", verify_pages.fault_rows(room)),
+        ("tables of words", verify_pages.word_rows()),
+        ("what to write instead in docs/LANGUAGE.md", verify_pages.without_rows(room)),
+        ("the index of examples", verify_pages.unlisted_examples()),
+        ("links", verify_pages.broken_links()),
+    ):
+        compare.holds(f"{what}: {wrong}", not wrong)
+
+
+CHECKS = [verify_explain, verify_why, verify_lint, verify_graph, verify_history, verify_schema, verify_vscode, verify_script, verify_watch, verify_page_commands, verify_page_tables]
 
 
 def main(words):
