@@ -121,7 +121,8 @@ class Teller:
         where = f", number {call} of those that {other.full_name} recorded" if other else ""
         calls = [it for it in self.reading.tokens if it.kind == "keyword" and it.text == "call"]
         message = f"{self.step.full_name} is static: its calls are played before any runtime call, and can't use what one returns"
-        return [self.show(it, message if i == 0 else "or here") for i, it in enumerate(calls)] + [f"  the value is that of a runtime call{where}", '  write `record = "runtime"` in this step']
+        notes = [f"  the value is that of a runtime call{where}", '  write `record = "runtime"` in this step']
+        return [self.show(it, message if i == 0 else "or here") for i, it in enumerate(calls)] + notes
 
     def taken(self):
         """What the step took before it failed."""

@@ -4,12 +4,14 @@ import re
 import tomllib
 
 from . import toml_tree
-from .body import KEYWORDS, METHOD_WORDS, STEP_WORDS
+from .body import KEYWORDS
+from .explain_body import BodyTeller
 from .project import Project, path_atoms
 from .schema import Checker, described, load
 from .words import both, count, did_you_mean, either, quoted
 
-LINE = re.compile(r"(?P<path>.*?): (?:token (?P<token>\d+): )?(?P<word>not TOML|wrong field|wrong name|repeated|unknown name|(?P<sum>\d+) is over the limit|wrong token|too deep|syntax|wrong use)$")
+WORDS = "not TOML|wrong field|wrong name|repeated|unknown name|wrong token|too deep|syntax|wrong use"
+LINE = re.compile(rf"(?P<path>.*?): (?:token (?P<token>\d+): )?(?P<word>{WORDS}|(?P<sum>\d+) is over the limit)$")
 WHAT = {"items": "item", "beans": "bean", "recorders": "recorder", "methods": "method", "steps": "step", "extensions": "extension"}
 
 
@@ -214,7 +216,8 @@ class Teller:
         name = self.written_name()
         if self.list_name() in ("only_if", "only_if_not"):
             keys = list(self.project.config)
-            return self.show(f"`config` has no key {name}", did_you_mean(name, keys), f"{'its key is' if len(keys) == 1 else 'its keys are'} {both(keys)}" if keys else f"write `config = {{{name} = true}}` or `false`")
+            own = f"{'its key is' if len(keys) == 1 else 'its keys are'} {both(keys)}"
+            return self.show(f"`config` has no key {name}", did_you_mean(name, keys), own if keys else f"write `config = {{{name} = true}}` or `false`")
         items = [it.name for it in self.project.items]
         return self.show(f"no extension declares an item {name}", did_you_mean(name, items), f'declare it: `items = [{{name = "{name}", kind = "simple"}}]`')
 
@@ -244,150 +247,3 @@ def why_no_name(name):
         return "a name begins with a letter from A to Z or a to z"
     wrong = sorted({it for it in name if not (it.isascii() and (it.isalnum() or it == "_"))})
     return f"a name has letters, digits and `_` alone, and no {either(quoted(it) for it in wrong)}"
-
-
-class BodyTeller:
-    """Tells what is wrong at one token of a body or a method's body."""
-
-    def __init__(self, teller, number, word):
-        self.teller = teller
-        self.project = teller.project
-        self.number = number
-        self.word = word
-        self.is_method = "methods" in teller.atoms
-        self.owner = self.owned()
-        self.reading = self.owner.reading() if self.owner else None
-
-    def owned(self):
-        """The step or the method whose body it is."""
-        table = self.teller.nodes[-2]
-        name = table.get("name")
-        start = name.start if name is not None else table.start
-        among = self.project.methods() if self.is_method else self.project.steps
-        return next((it for it in among if it.start == start), None)
-
-    def told(self):
-        tokens = self.reading.tokens
-        if self.number >= len(tokens):
-            return self.teller.show(f"the body has no token {self.number}")
-        token = tokens[self.number]
-        message, notes = getattr(self, self.word.replace(" ", "_"))(token)
-        places = self.teller.node.places
-        return self.teller.show_at(places[token.start], places[token.end - 1] + 1 if token.end > token.start else places[token.end], message, *notes, f"token {self.number} of the body")
-
-    def expected(self):
-        return f"what may stand here is {either(self.reading.expected)}" if self.reading.expected else ""
-
-    def wrong_token(self, token):
-        text = self.reading.tokens and self.owner.body.value
-        hints = {
-            "&": "`and` is written `&&`",
-            "|": "there is no `or`: write an `if` with an `else`, or `!(!a && !b)`",
-            "-": "there is no subtraction; a `-` stands directly before the digits of a number, and -0 is none",
-            "'": "texts stand in double quotes",
-            "/": "there are no comments and no division",
-            "#": "there are no comments",
-            ">": "`a > b` is written `b < a`",
-            "*": "there is no multiplication",
-            "%": "there is no remainder",
-        }
-        if token.text == '"':
-            end = text[token.start + 1 :]
-            hint = 'the text has a wrong escape; the escapes are `\\"`, `\\\\`, `\\n`, `\\t` and `\\u{H}`' if '"' in end and "\\" in end else 'the text isn\'t closed by a `"`, or has a line end in it, which is written `\\n`'
-            return "no text is written so", [hint]
-        return f"no token begins with `{token.text}`", [hints.get(token.text, ""), self.expected()]
-
-    def too_deep(self, token):
-        return f"{token.shown()} stands inside 64 open ones", ["bind a part with `let` before"]
-
-    def syntax(self, token):
-        before = self.reading.tokens[self.number - 1] if self.number else None
-        return f"{token.shown()} may not stand here", [self.syntax_hint(token, before), self.expected()]
-
-    def syntax_hint(self, token, before):
-        text = token.text
-        if before and before.kind == "number" and token.kind == "number" and not text.startswith("-"):
-            return "a number has no leading zero, and 64 bits at most"
-        if text == "=" and ("`==`" in self.reading.expected or before and before.text in ("=", "==")):
-            return "equality is written `==`"
-        if token.kind == "number" and text.startswith("-"):
-            return f"there is no subtraction; to add a negative number, write `+ {text}`"
-        if before and before.text == "<" and text == "=":
-            return "there is no `<=`: write `!(b < a)` for `a <= b`"
-        if before and before.text == "=" and text == "<":
-            return "there is no `=<`"
-        if text in ("==", "<") and "`&&`" in self.reading.expected:
-            return "a comparison isn't repeated: join two by `&&`"
-        if token.kind == "keyword" and not self.is_method and text in METHOD_WORDS:
-            return f"`{text}` belongs to the methods of recorders; a step records their calls"
-        if token.kind == "keyword" and self.is_method and text in STEP_WORDS:
-            return f"`{text}` belongs to steps"
-        if token.kind == "keyword" and ("a name" in self.reading.expected or "a field" in self.reading.expected or "an item" in self.reading.expected):
-            return f"`{text}` is a word of the language, and no name"
-        if "`;`" in self.reading.expected:
-            return "a statement ends with `;`"
-        if token.kind == "name" and "`let`" in self.reading.expected:
-            return did_you_mean(text, ["let", "produce", "for", "if", "call", "fail"]) or "a name is bound by `let`, and not set again"
-        return ""
-
-    def unknown_name(self, token):
-        use = self.reading.use_at(self.number)
-        if use is None:
-            return f"{token.shown()} is unknown here", []
-        message, names = self.lookup(use)
-        known = f"known {'is' if len(names) == 1 else 'are'} {', '.join(names[:8]) + ' and others' if len(names) > 8 else both(names)}" if names else ""
-        return message, [did_you_mean(use.name, names), known]
-
-    def lookup(self, use):
-        """What an unknown name was looked for as, and the names that would be found."""
-        project, name = self.project, use.name
-        if use.role == "variable":
-            names = list(dict.fromkeys(reversed(use.scope)))
-            later = " here: what a block binds ends with the block" if name in self.reading.names("let") + self.reading.names("for") else ""
-            return f"no variable {name} is in scope{later}", names
-        if use.role == "item":
-            return f"no extension declares an item {name}", [it.name for it in project.items]
-        if use.role == "bean":
-            return f"no extension declares a bean {name}", [it.name for it in project.beans]
-        if use.role == "recorder":
-            return f"no extension declares a recorder {name}", [it.name for it in project.recorders]
-        if use.role == "method":
-            return f"the recorder {use.owner} has no method {name}", [it.name for it in project.recorder(use.owner).methods]
-        if use.role == "bean field":
-            return f"the bean {use.owner} has no field {name}", project.bean(use.owner).fields
-        recorder = project.recorder(self.owner.recorder)
-        if use.role == "static":
-            return f"the recorder {recorder.name} has no static {name}", recorder.statics
-        return f"the recorder {recorder.name} has no field {name}", recorder.fields
-
-    def wrong_use(self, token):
-        if token.text == "call" and token.kind == "keyword":
-            return "a step without `record` records no calls", ['write `record = "static"` or `record = "runtime"` in the step']
-        use = self.reading.use_at(self.number)
-        if use.role == "item":
-            return self.wrong_item(use)
-        if use.role == "method":
-            params = self.project.recorder(use.owner).method(use.name).params
-            return f"{use.owner}.{use.name} has {count(len(params), 'parameter')}, and {count(use.arguments, 'argument')} stand here".replace("1 argument stand", "1 argument stands"), [f"its parameters are {both(params)}" if params else ""]
-        if use.role == "bean":
-            fields = self.project.bean(use.name).fields
-            written = [it.name for it in self.reading.uses if it.role == "bean field" and it.owner == use.name and it.token > use.token]
-            left_out = [it for it in fields if it not in written] or fields
-            strange = next((it for it in written if it not in fields), "")
-            note = f"it has no field {strange}: {did_you_mean(strange, fields) or 'its fields are ' + both(fields)}" if strange else ""
-            return f"a new {use.name} has a value for each of its fields", [f"{both(left_out)} {'is' if len(left_out) == 1 else 'are'} left out", note]
-        return f"the field {use.name} stands here a second time", []
-
-    def wrong_item(self, use):
-        item, step = self.project.item(use.name), self.owner
-        if use.owner == "produce":
-            if not step.produced(use.name):
-                return f"{step.full_name} doesn't produce {use.name}", [f'write `produces = ["{use.name}"]`' if not step.produces else f"it produces {both(it.name for it in step.produces)}", did_you_mean(use.name, [it.name for it in step.produces])]
-            return f"{use.name} is an empty item, and carries no value", ["leave the statement out: that the step ends is all that its consumers wait for"]
-        if not step.consumed(use.name):
-            return f"{step.full_name} doesn't consume {use.name}", [f'write `consumes = ["{use.name}"]`' if not step.consumes else f"it consumes {both(it.name for it in step.consumes)}", did_you_mean(use.name, [it.name for it in step.consumes])]
-        if item.kind == "empty":
-            return f"{use.name} is an empty item, and carries no value", ["a consumer only waits for it"]
-        if use.owner == "get":
-            return f"{use.name} is {'an' if item.kind == 'ordered' else 'a'} {item.kind} item, which has a list of values", [f"write `all {use.name}`"]
-        return f"{use.name} is a simple item, which has one value", [f"write `get {use.name}`"]

@@ -22,6 +22,10 @@ STYLE = (
     "text{font:12px sans-serif;dominant-baseline:central}.item{font-size:11px;fill:#555}.pale{fill:#999}"
     ".number{font-size:10px;fill:#fff}.edge{fill:none;stroke:#777;stroke-width:1.2}.weak{stroke-dasharray:4 3}.faint{stroke:#ccc}"
 )
+TIP = (
+    '<defs><marker id="tip" viewBox="0 0 8 8" refX="7" refY="4" markerWidth="7" markerHeight="7" orient="auto">'
+    '<path d="M0 0L8 4L0 8z" fill="#777"/></marker></defs>'
+)
 
 
 def main(words):
@@ -103,8 +107,10 @@ class Picture:
 
 def dot(picture):
     """The chain for Graphviz: items stand on the edges."""
-    lines = ["digraph chain {", "  rankdir = LR;", '  node [shape = box, style = "rounded,filled", fontname = "sans-serif", fontsize = 11];', '  edge [fontname = "sans-serif", fontsize = 9];']
     project = picture.chain.project
+    lines = ["digraph chain {", "  rankdir = LR;"]
+    lines.append('  node [shape = box, style = "rounded,filled", fontname = "sans-serif", fontsize = 11];')
+    lines.append('  edge [fontname = "sans-serif", fontsize = 9];')
     for step in project.steps:
         state = picture.states[step.number]
         fill, line = COLOURS[state]
@@ -116,13 +122,25 @@ def dot(picture):
             lines.append(f'  "{item.name}" [shape = ellipse, fillcolor = "#eef7ec", color = "#4a8f3c"];')
     for step in project.steps:
         for entry in step.produces:
-            counts = step in picture.chain.effective.get(entry.name, ()) and picture.chain.is_needed(step)
-            for taker in picture.chain.consumers.get(entry.name, ()):
-                faint = "" if counts and picture.chain.is_needed(taker) else ', color = "#cccccc", fontcolor = "#999999"'
-                lines.append(f'  s{step.number} -> s{taker.number} [label = "{entry.name}"{", style = dashed" if "weak" in entry.marks or "optional" in taker.consumed(entry.name).marks else ""}{faint}];')
-            if entry.name in picture.finals():
-                lines.append(f'  s{step.number} -> "{entry.name}"{"" if counts else " [color = " + chr(34) + "#cccccc" + chr(34) + "]"};')
+            lines += dot_edges(picture, step, entry)
     return "\n".join(lines + ["}"]) + "\n"
+
+
+def dot_edges(picture, step, entry):
+    """The edges of one production: to each step that consumes it, and to the final item."""
+    chain = picture.chain
+    counts = step in chain.effective.get(entry.name, ()) and chain.is_needed(step)
+    lines = []
+    for taker in chain.consumers.get(entry.name, ()):
+        marks = [f'label = "{entry.name}"']
+        if "weak" in entry.marks or "optional" in taker.consumed(entry.name).marks:
+            marks.append("style = dashed")
+        if not counts or not chain.is_needed(taker):
+            marks += ['color = "#cccccc"', 'fontcolor = "#999999"']
+        lines.append(f"  s{step.number} -> s{taker.number} [{', '.join(marks)}];")
+    if entry.name in picture.finals():
+        lines.append(f'  s{step.number} -> "{entry.name}"' + (";" if counts else ' [color = "#cccccc"];'))
+    return lines
 
 
 def svg(picture):
@@ -134,7 +152,7 @@ def svg(picture):
     title = f"The chain of {picture.chain.project.app}"
     lines = [f'<svg xmlns="http://www.w3.org/2000/svg" viewBox="0 0 {wide} {high}" width="{wide}" height="{high}" role="img" aria-label="{escape(title)}">']
     lines += [f"<title>{escape(title)}</title>", f"<style>{STYLE}</style>"]
-    lines.append('<defs><marker id="tip" viewBox="0 0 8 8" refX="7" refY="4" markerWidth="7" markerHeight="7" orient="auto"><path d="M0 0L8 4L0 8z" fill="#777"/></marker></defs>')
+    lines.append(TIP)
     lines += [edge(link, placed.routes[link[:2]]) for link in picture.links if link[:2] in placed.routes]
     for key, text in nodes:
         lines += box(picture, key, text, placed.places[key], widths[key])
@@ -162,18 +180,30 @@ def edge(link, points):
 
 def box(picture, key, text, at, wide):
     """The elements of a node."""
+    draw = item_box if key[0] == "item" else step_box
+    return draw(picture, key, text, at, wide)
+
+
+def item_box(picture, key, text, at, wide):
+    """An item, round; a final one is green."""
     x, y = at
-    if key[0] == "item":
-        final = text in picture.finals()
-        shape = f'<rect x="{x:.0f}" y="{y - 10:.0f}" width="{wide}" height="20" rx="10" fill="{"#eef7ec" if final else "#ffffff"}" stroke="{"#4a8f3c" if final else "#cccccc"}"/>'
-        return [f'<g data-item="{text}">{shape}<text class="item" x="{x + wide / 2:.0f}" y="{y:.0f}" text-anchor="middle">{escape(text)}</text></g>']
+    fill, line = ("#eef7ec", "#4a8f3c") if text in picture.finals() else ("#ffffff", "#cccccc")
+    shape = f'<rect x="{x:.0f}" y="{y - 10:.0f}" width="{wide}" height="20" rx="10" fill="{fill}" stroke="{line}"/>'
+    label = f'<text class="item" x="{x + wide / 2:.0f}" y="{y:.0f}" text-anchor="middle">{escape(text)}</text>'
+    return [f'<g data-item="{text}">{shape}{label}</g>']
+
+
+def step_box(picture, key, text, at, wide):
+    """A step by its state, with the number of its start where there is one."""
+    x, y = at
     state = picture.states[key[1]]
     fill, line = COLOURS[state]
     dashes = ' stroke-dasharray="4 3"' if state == "inactive" else ""
     parts = [f'<rect x="{x:.0f}" y="{y - 13:.0f}" width="{wide}" height="26" rx="5" fill="{fill}" stroke="{line}"{dashes}/>']
     left = x + 9
     if text in picture.order:
-        parts.append(f'<circle cx="{x + 13:.0f}" cy="{y:.0f}" r="9" fill="{line}"/><text class="number" x="{x + 13:.0f}" y="{y:.0f}" text-anchor="middle">{picture.order[text]}</text>')
+        parts.append(f'<circle cx="{x + 13:.0f}" cy="{y:.0f}" r="9" fill="{line}"/>')
+        parts.append(f'<text class="number" x="{x + 13:.0f}" y="{y:.0f}" text-anchor="middle">{picture.order[text]}</text>')
         left += 18
     pale = ' class="pale"' if state in ("unneeded", "inactive") else ""
     parts.append(f'<text{pale} x="{left:.0f}" y="{y:.0f}">{escape(text)}</text>')

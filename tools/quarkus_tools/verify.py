@@ -107,6 +107,30 @@ def verify_explain(compare, room):
         compare.text(f"tools/mistakes/{path[:-5]}.txt", found)
 
 
+# What the program may print before tools/explain reads it, and for which file.
+PIPED = [
+    ("guide/app.toml", ""),
+    ("guide/absent.toml", ""),
+    ("guide", ""),
+    ("guide/app.toml", "planned shop: steps 2 of 2\n"),
+    ("guide/app.toml", "usage: plan FILE | build FILE OUT [--workers N]\n"),
+    ("guide/app.toml", "quarkus: rt, which proves and builds the program, isn't on the PATH\n"),
+    ("values/app.toml", "step failed: core.other: kind at 3\n"),
+    ("failing_step/app.toml", "start net.read\nput net.read Port 80\nend net.read 0\nstep failed: net.check: too many cells\n"),
+    ("failing_step/app.toml", "step failed: net.check: too much taken of Port\n"),
+    ("failing_step/app.toml", "step failed: net.check: value too deep at 2\n"),
+    ("demo/app.toml", "project refused: file: 1048577 is over the limit\n"),
+    ("web/app.toml", "project refused: extensions[1].steps: 2049 is over the limit\n"),
+]
+
+
+def verify_piped(compare, room):
+    """What tools/explain says behind a pipe, without having run the program."""
+    with folder(EXAMPLES):
+        found = [f"== {file}, {text.splitlines()[-1] if text else 'nothing'}\n" + printed(explain.main, [file], text) for file, text in PIPED]
+    compare.text("tools/stored/explain_piped.txt", "\n".join(found))
+
+
 # What tools/why is asked of an example.
 ASKED = {
     "conditions/override.toml": ["user", "Conf"],
@@ -121,7 +145,9 @@ def project_files():
     """The examples' project files, those of refused projects left out."""
     for name in sorted(os.listdir(EXAMPLES)):
         here = os.path.join(EXAMPLES, name)
-        for file in sorted(os.listdir(here)) if os.path.isdir(here) and name != "refused_projects" else ():
+        if not os.path.isdir(here) or name == "refused_projects":
+            continue
+        for file in sorted(os.listdir(here)):
             if file.endswith(".toml"):
                 yield f"{name}/{file}"
 
@@ -192,7 +218,8 @@ def verify_vscode(compare, room):
         file.write(verify_editors.snippet_project())
     status, text = run(["plan", path])
     compare.holds(f"the snippets make no project: {text}", status == 0)
-    places = verify_editors.matcher().findall(read(os.path.join(TOOLS, "stored", "lint.txt")) + read(os.path.join(TOOLS, "mistakes", "plan", "minus.txt")))
+    printed_places = read(os.path.join(TOOLS, "stored", "lint.txt")) + read(os.path.join(TOOLS, "mistakes", "plan", "minus.txt"))
+    places = verify_editors.matcher().findall(printed_places)
     compare.holds("the problem matcher finds no place", ("minus.toml", "12", "43", "", "`-1` may not stand here") in places and len(places) > 9)
 
 
@@ -237,6 +264,7 @@ def verify_page_tables(compare, room):
         ("refused bodies in docs/LANGUAGE.md", verify_pages.body_rows(room)),
         ("wrong lines in docs/PROJECT_FILE.md", verify_pages.fault_rows(room)),
         ("tables of words", verify_pages.word_rows()),
+        ("values in docs/TEXTS.md", verify_pages.value_rows()),
         ("what to write instead in docs/LANGUAGE.md", verify_pages.without_rows(room)),
         ("the index of examples", verify_pages.unlisted_examples()),
         ("links", verify_pages.broken_links()),
@@ -244,7 +272,20 @@ def verify_page_tables(compare, room):
         compare.holds(f"{what}: {wrong}", not wrong)
 
 
-CHECKS = [verify_explain, verify_why, verify_lint, verify_graph, verify_history, verify_schema, verify_vscode, verify_script, verify_watch, verify_page_commands, verify_page_tables]
+CHECKS = [
+    verify_explain,
+    verify_piped,
+    verify_why,
+    verify_lint,
+    verify_graph,
+    verify_history,
+    verify_schema,
+    verify_vscode,
+    verify_script,
+    verify_watch,
+    verify_page_commands,
+    verify_page_tables,
+]
 
 
 def main(words):

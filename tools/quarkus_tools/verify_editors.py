@@ -11,7 +11,21 @@ from .project import Project
 from .source import Source
 
 VSCODE = os.path.join(schema.TOP, "editors", "vscode")
-KINDS = {"keyword.control": "keyword", "keyword.other": "keyword", "constant.language": "keyword", "variable.language": "keyword", "constant.numeric": "number", "entity.name.type": "name", "variable.other": "name", "keyword.operator": "sign", "punctuation": "sign"}
+# What kind of token each scope of the grammar is.
+KINDS = {
+    "keyword.control": "keyword",
+    "keyword.other": "keyword",
+    "constant.language": "keyword",
+    "variable.language": "keyword",
+    "constant.numeric": "number",
+    "entity.name.type": "name",
+    "variable.other": "name",
+    "keyword.operator": "sign",
+    "punctuation": "sign",
+}
+# What the snippet of an extension has to declare for the other snippets.
+DECLARED = '{name = "Router", kind = "simple"},'
+MORE = ['{name = "Config", kind = "simple"},', '{name = "Started", kind = "empty"},']
 
 
 def schema_table(files):
@@ -101,7 +115,7 @@ def snippet_project():
     """A project file made of the snippets, with their defaults: it has to be one that can be planned."""
     snippets = {key: expanded("\n".join(it["body"])) for key, it in load("snippets", "project.json").items()}
     head, rest = snippets["Project file"].split("\n\n", 1)
-    extension = snippets["Extension"].replace('{name = "Router", kind = "simple"},', '{name = "Router", kind = "simple"},\n  {name = "Config", kind = "simple"},\n  {name = "Started", kind = "empty"},\n  ' + snippets["Ordered item"])
+    extension = snippets["Extension"].replace(DECLARED, "\n  ".join([DECLARED, *MORE, snippets["Ordered item"]]))
     recorder = snippets["Recorder"].replace("LogRecorder", "WebRecorder").replace("say", "listen")
     parts = [extension, snippets["Bean"], recorder, snippets["Default"], snippets["Step"], snippets["Recording step"]]
     return "\n".join([head.replace("Ready", "Started"), "", rest, "", *parts]) + "\n"

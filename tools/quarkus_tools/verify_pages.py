@@ -8,6 +8,7 @@ import os
 import re
 import subprocess
 
+from . import history
 from .body import KEYWORDS, SIGN
 from .program import TOP, program, run
 
@@ -111,21 +112,22 @@ def body_rows(room):
     return wrong
 
 
+# What a row of PROJECT_FILE.md's table of wrong lines means where it says it in words.
 PROSE = {
     "2,049 entries of `finals`": "finals = [" + '"T", ' * 2049 + "]",
-    "the name of an earlier one": 'name = "e"',
+    "the name of an earlier one": 'name = "e"}, {name = "e"',
     "two items `T` in the first extension": 'items = [{name = "T", kind = "empty"}, {name = "T", kind = "empty"}]',
     "17 fields": "fields = [" + ", ".join(f'"f{i}"' for i in range(17)) + "]",
 }
 HEAD = 'format = 1\napp = "a"\n'
-ITEMS = 'items = [{name = "T", kind = "simple"}, {name = "U", kind = "simple"}]'
-WRAPS = {
-    "an extension": "extensions = [{{name = \"e\"}}, {{{0}}}]",
-    "an item": "extensions = [{{name = \"e\", items = [{{name = \"T\", {0}}}]}}]",
-    "a bean": "extensions = [{{name = \"e\", beans = [{{name = \"B\", {0}}}]}}]",
-    "a recorder": "extensions = [{{name = \"e\", recorders = [{{name = \"R\", {0}}}]}}]",
-    "a method": "extensions = [{{name = \"e\", recorders = [{{name = \"R\", methods = [{{name = \"m\", {0}}}]}}]}}]",
-    "a step": "extensions = [{{name = \"e\", " + ITEMS.replace("{", "{{").replace("}", "}}") + ", steps = [{{name = \"s\", {0}}}]}}]",
+# What stands around a wrong line of each table.
+AROUND = {
+    "an extension": ("extensions = [{", "}]"),
+    "an item": ('extensions = [{name = "e", items = [{name = "T", ', "}]}]"),
+    "a bean": ('extensions = [{name = "e", beans = [{name = "B", ', "}]}]"),
+    "a recorder": ('extensions = [{name = "e", recorders = [{name = "R", ', "}]}]"),
+    "a method": ('extensions = [{name = "e", recorders = [{name = "R", methods = [{name = "m", ', "}]}]}]"),
+    "a step": ('extensions = [{name = "e", items = [{name = "T", kind = "simple"}, {name = "U", kind = "simple"}], steps = [{name = "s", ', "}]}]"),
 }
 
 
@@ -133,17 +135,16 @@ def fault_file(place, line):
     """The file that a row of PROJECT_FILE.md's table of wrong lines means."""
     code = PROSE.get(line) or re.search(r"`(.+?)`(?: |$)", line).group(1)
     if place == "the file":
-        if " alone" in line or " without " in line:
-            return code + "\n" + ('app = "a"\n' if "java" in line else "")
-        return re.sub(rf"^{code.split(' ')[0]} = .*\n", "", HEAD, flags=re.MULTILINE) + code + "\n"
-    if place == "an extension":
-        text = WRAPS[place].format(code)
-        return HEAD + (text.replace('{name = "e"}, {', "{").replace('[{name = "9x"', '[{name = "9x"') if "9x" in code else text)
+        if " alone" in line:
+            return code + "\n"
+        key = code.split(" ")[0]
+        return re.sub(rf"^{key} = .*\n", "", HEAD, flags=re.MULTILINE) + code + "\n"
     if place == "an item" and code.startswith("items"):
         return HEAD + f'extensions = [{{name = "e", {code}}}]\n'
-    if "body" in code and place == "a step":
+    if place == "a step" and code.startswith("body"):
         code += ', produces = ["T"]'
-    return HEAD + WRAPS[place].format(code) + "\n"
+    before, behind = AROUND[place]
+    return HEAD + before + code + behind + "\n"
 
 
 def fault_rows(room):
@@ -166,18 +167,40 @@ def word_rows():
     return wrong + ([] if listed == KEYWORDS else ["the words of docs/PROJECT_FILE.md"])
 
 
+# A step with the names that the rows below use.
+WITHOUT = """
+finals = ["T"]
+[[extensions]]
+name = "e"
+items = [{name = "T", kind = "multi"}, {name = "N", kind = "multi"}]
+beans = [{name = "Port", fields = ["number", "shown"]}]
+[[extensions.steps]]
+name = "s"
+consumes = ["N"]
+produces = ["T"]
+"""
+
+
 def without_rows(room):
     """Rows of LANGUAGE.md's table of what to write in place of what isn't there, that the program refuses."""
     wrong = []
     for cells in rows("docs/LANGUAGE.md", "## What the language leaves out"):
         for body in re.findall(r"`((?:produce|if|for|let) [^`]*)`", cells[1]):
-            found = answer(
-                room,
-                HEAD + 'finals = ["T"]\n[[extensions]]\nname = "e"\nitems = [{name = "T", kind = "multi"}, {name = "N", kind = "multi"}]\nbeans = [{name = "Port", fields = ["number", "shown"]}]\n'
-                f"steps = [{{name = \"s\", consumes = [\"N\"], produces = [\"T\"], body = 'let a = 1; let b = 2; let p = true; let q = true; {body}'}}]\n",
-            )
+            found = answer(room, HEAD + WITHOUT + f"body = 'let a = 1; let b = 2; let p = true; let q = true; {body}'\n")
             if "planned a: " not in found:
                 wrong.append(f"{body}: {found}")
+    return wrong
+
+
+def value_rows():
+    """Examples of printed values in TEXTS.md that are no values."""
+    wrong = []
+    for _, _, example in rows("docs/TEXTS.md", "## Values"):
+        try:
+            if example:
+                history.value(example.strip("`"))
+        except history.HistoryFault as fault:
+            wrong.append(str(fault))
     return wrong
 
 

@@ -71,7 +71,9 @@ def product(chain, step, entry):
     takers = takers_of(chain, entry.name)
     if not takers:
         others = [it.full_name for it in chain.consumers.get(entry.name, ())]
-        return f"{shown} is wanted by nobody" + (f": {both(others)} {'consumes' if len(others) == 1 else 'consume'} it, and {'is' if len(others) == 1 else 'are'} not needed" if others else "")
+        words = ("consumes", "is") if len(others) == 1 else ("consume", "are")
+        told = f": {both(others)} {words[0]} it, and {words[1]} not needed"
+        return f"{shown} is wanted by nobody{told if others else ''}"
     if not chain.is_needed(step):
         return f"{shown} is weak: that it is wanted by {both(takers)} makes no step needed"
     return f"{shown} goes to {both(takers)}"
