@@ -1,3 +1,4 @@
+pub mod CallerLemmas
 mod Methods
 mod Only
 mod Whole

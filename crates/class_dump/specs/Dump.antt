@@ -11,9 +11,10 @@ use Rattle.class_pool.specs.declared.class.Attribute.TheOpen.{Attribute-F}
 use Rattle.class_pool.specs.declared.class.Code.{Code, out-Code}
 use Rattle.class_pool.specs.declared.class.Member.{Member}
 use Rattle.class_pool.specs.declared.class.Class.{Class}
-use Rattle.class_dump.specs.declared.opcode.Instruction.{Instruction}
+use Rattle.class_code.specs.declared.instruction.Instruction.{Instruction}
 use Rattle.class_dump.specs.Names.{hex, text_at, class_at}
-use Rattle.class_dump.specs.Opcodes.{word, width, decoded}
+use Rattle.class_code.specs.Opcodes.{word, width, size}
+use Rattle.class_code.specs.Encoded.{decoded}
 
 abbrev pub line_end : List ℕ
 line_end = codes "\n"
@@ -77,7 +78,7 @@ bytes_line pc bytes = codes "  " ++ decimal pc ++ codes ": bytes " ++ hex bytes 
 unfoldable pub code_lines : ℕ → ℕ → List ℕ → List ℕ
 code_lines inside pc [] = []
 code_lines (suc inside) pc (b ∷ bytes) = code_lines inside (pc + 1) bytes
-code_lines zero pc (b ∷ bytes) = elim (decoded (b ∷ bytes)) [ None ↦ bytes_line pc (b ∷ bytes) | Some d ↦ instruction_line pc d ++ code_lines (d.size - 1) (pc + 1) bytes ]
+code_lines zero pc (b ∷ bytes) = elim (decoded (b ∷ bytes)) [ None ↦ bytes_line pc (b ∷ bytes) | Some d ↦ instruction_line pc d.0 ++ code_lines (size d.0.opcode - 1) (pc + 1) bytes ]
 
 -- ---- fields, methods and attributes
 
@@ -98,7 +99,7 @@ abbrev pub flags_text : ℕ → List ℕ
 flags_text flags = hex (to_be_bytes w16 flags)
 
 abbrev pub member_text : List ℕ → List Entry → Member → List ℕ
-member_text kind pool m = kind ++ flags_text m.flags ++ codes " " ++ text_at pool m.name ++ codes " " ++ text_at pool m.descriptor
+member_text kind pool m = kind ++ flags_text m.flags.bits ++ codes " " ++ text_at pool m.name ++ codes " " ++ text_at pool m.descriptor
 
 abbrev pub field_line : List Entry → Member → List ℕ
 field_line pool m = member_text (codes "field ") pool m ++ line_end

@@ -2,7 +2,7 @@ ghost use Rattle.std.specs.Prelude.{◌≡◌, ◌+◌, ◌≤◌, ◌++◌, len
 ghost use Rattle.class_dump.specs.Dump as spec;
 
 use crate::hex::push_hex;
-use crate::opcode::{Instruction, decode};
+use class_code::{Instruction, decode};
 use item_types::Memory;
 
 fn push_operand(instruction: Instruction, out: &mut String) -> Result<(), Memory>
@@ -43,9 +43,9 @@ fn push_line(pc: usize, bytes: &[u8], out: &mut String) -> Result<usize, Memory>
     ensures line { IfOk result (λ n. string_bytes out.new ++ spec.code_lines 0 (pc + n) (drop n bytes.now) ≡ string_bytes out.old ++ spec.code_lines 0 pc bytes.now) }
 {
     match decode(bytes) {
-        Some(instruction) => {
+        Some((instruction, _)) => {
             push_instruction(pc, instruction, out)?;
-            Ok(instruction.size)
+            Ok(instruction.opcode.size())
         }
         None => {
             push_bytes(pc, bytes, out)?;

@@ -6,8 +6,6 @@ mod code;
 mod entry;
 mod hex;
 mod name;
-mod opcode;
 mod text;
 
-pub use opcode::{Instruction, Opcode, decode};
 pub use text::dump;

@@ -49,7 +49,7 @@ fn push_member(kind: &str, pool: &[Entry], member: &Member, out: &mut String) ->
     ensures { OnOk result (string_bytes out.new ≡ string_bytes out.old ++ spec.member_text kind.now pool.now member.now) }
 {
     out.push_str(kind)?;
-    push_hex(&member.flags.to_be_bytes(), out)?;
+    push_hex(&member.flags.bits.to_be_bytes(), out)?;
     out.push_str(" ")?;
     push_text_at(pool, member.name, out)?;
     out.push_str(" ")?;

@@ -1,7 +1,11 @@
 -- Each layout of the grammar is read rightly.
-use Rattle.std.proofs.Common.{ℕ, Bool, List, []}
+use Rattle.std.proofs.Common.{ℕ, Bool, List, [], Some, None}
 use Rattle.class_pool.specs.declared.entry.Entry.{Entry}
-use Rattle.class_grammar.specs.Grammar.{utf8, four, eight, long, double_of, one, pair, two, interface, interfaces, field, fields, entry_of, entry_from, next_entry, pool, text_index, raw, raws, row, code, coded, plain, attribute_of, attributes, method, methods, version, class}
+use Rattle.std.specs.Prelude.{Option}
+use Rattle.class_pool.specs.declared.tag.Tag.{Tag}
+use Rattle.class_pool.specs.declared.tag.Tag.TheVariants as tag
+use Rattle.class_pool.specs.Tags.{tag_of}
+use Rattle.class_grammar.specs.Grammar.{utf8, four, eight, long, double_of, one, pair, two, interface, interfaces, field, fields, entry_with, entry_from, next_entry, pool, text_index, raw, raws, row, code, coded, plain, attribute_of, attributes, method, methods, version, class}
 use Rattle.class_grammar.proofs.Right.{Right, right8, right16, right32, run_right, pure_right, refused_right, bind_right, choose_right, turned_right, inside_right, many_right}
 
 utf8_right : (i : ℕ) → Right (utf8 i)
@@ -36,15 +40,24 @@ two_right : (made : ℕ → ℕ → Entry) → Right (two made)
 unfolding two
 two_right made = bind_right _ _ pair_right (λ ab. pure_right _)
 
-entry_of_right : (i count tag : ℕ) → Right (entry_of i count tag)
-unfolding entry_of
-entry_of_right i count tag =
-    choose_right _ _ _ (utf8_right i) (choose_right _ _ _ (four_right _) (choose_right _ _ _ (four_right _) (choose_right _ _ _ (long_right i count) (choose_right _ _ _ (double_right i count)
-    (choose_right _ _ _ (one_right _) (choose_right _ _ _ (one_right _) (choose_right _ _ _ (two_right _) (choose_right _ _ _ (two_right _) (choose_right _ _ _ (two_right _) (choose_right _ _ _ (two_right _) (refused_right _)))))))))))
+entry_with_right : (i count : ℕ) (t : Option Tag) → Right (entry_with i count t)
+unfolding entry_with
+entry_with_right i count None = refused_right _
+entry_with_right i count (Some tag.Utf8) = utf8_right i
+entry_with_right i count (Some tag.Integer) = four_right _
+entry_with_right i count (Some tag.Float) = four_right _
+entry_with_right i count (Some tag.Long) = long_right i count
+entry_with_right i count (Some tag.Double) = double_right i count
+entry_with_right i count (Some tag.Class) = one_right _
+entry_with_right i count (Some tag.Str) = one_right _
+entry_with_right i count (Some tag.Field) = two_right _
+entry_with_right i count (Some tag.Method) = two_right _
+entry_with_right i count (Some tag.Interface) = two_right _
+entry_with_right i count (Some tag.NameType) = two_right _
 
 entry_from_right : (i count : ℕ) → Right (entry_from i count)
 unfolding entry_from
-entry_from_right i count = bind_right _ _ right8 (λ tag. entry_of_right i count tag)
+entry_from_right i count = bind_right _ _ right8 (λ byte. entry_with_right i count (tag_of byte))
 
 next_entry_right : (count : ℕ) (found : List Entry) → Right (next_entry count found)
 unfolding next_entry

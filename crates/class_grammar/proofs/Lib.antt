@@ -1,3 +1,4 @@
-pub mod Right
-pub mod Grammars
-pub mod Files
+pub mod CallerLemmas
+mod Files
+mod Grammars
+mod Right

@@ -11,8 +11,13 @@ use Rattle.class_pool.specs.declared.class.Attribute.{Attribute, out-Attribute}
 use Rattle.class_pool.specs.declared.class.Attribute.TheVariants as attribute
 use Rattle.class_pool.specs.declared.class.Attribute.TheOpen.{Attribute-F}
 use Rattle.class_pool.specs.declared.class.Code.{Code, roll-Code}
+use Rattle.class_pool.specs.declared.class.CatchRow.{CatchRow}
 use Rattle.class_pool.specs.declared.class.Member.{Member}
 use Rattle.class_pool.specs.declared.class.Class.{Class}
+use Rattle.class_pool.specs.declared.flags.Flags.{Flags}
+use Rattle.class_pool.specs.declared.tag.Tag.{Tag}
+use Rattle.class_pool.specs.declared.tag.Tag.TheVariants as tag
+use Rattle.class_pool.specs.Tags.{tag_of}
 use Rattle.class_pool.specs.declared.fault.ClassFault.{ClassFault}
 use Rattle.class_pool.specs.declared.fault.ClassFault.TheVariants as fault
 use Rattle.class_grammar.specs.Layout.{Outcome, place, Layout, number, run, pure, refused, ◌>>=◌, choose, turned, checked, inside, many}
@@ -72,26 +77,28 @@ two made = do
   ab ← pair
   pure (made ab.0 ab.1 ∷ [])
 
--- what follows a tag
-unfoldable pub entry_of : ℕ → ℕ → ℕ → Layout (List Entry)
-entry_of i count tag =
-    choose (tag == 1) (utf8 i) (
-    choose (tag == 3) (four entry.Integer) (
-    choose (tag == 4) (four entry.Float) (
-    choose (tag == 5) (long i count) (
-    choose (tag == 6) (double_of i count) (
-    choose (tag == 7) (one entry.Class) (
-    choose (tag == 8) (one entry.Str) (
-    choose (tag == 9) (two entry.Field) (
-    choose (tag == 10) (two entry.Method) (
-    choose (tag == 11) (two entry.Interface) (
-    choose (tag == 12) (two entry.NameType) (
-    refused (fault.Pool i))))))))))))
+-- what follows a tag; a byte that is none goes no way on
+unfoldable pub entry_with : ℕ → ℕ → Option Tag → Layout (List Entry)
+entry_with i count None = refused (fault.Pool i)
+entry_with i count (Some tag.Utf8) = utf8 i
+entry_with i count (Some tag.Integer) = four entry.Integer
+entry_with i count (Some tag.Float) = four entry.Float
+entry_with i count (Some tag.Long) = long i count
+entry_with i count (Some tag.Double) = double_of i count
+entry_with i count (Some tag.Class) = one entry.Class
+entry_with i count (Some tag.Str) = one entry.Str
+entry_with i count (Some tag.Field) = two entry.Field
+entry_with i count (Some tag.Method) = two entry.Method
+entry_with i count (Some tag.Interface) = two entry.Interface
+entry_with i count (Some tag.NameType) = two entry.NameType
+
+abbrev pub entry_of : ℕ → ℕ → ℕ → Layout (List Entry)
+entry_of i count byte = entry_with i count (tag_of byte)
 
 unfoldable pub entry_from : ℕ → ℕ → Layout (List Entry)
 entry_from i count = do
-  tag ← number w8
-  entry_of i count tag
+  byte ← number w8
+  entry_of i count byte
 
 -- the next entry, where there is one, behind those that were found
 unfoldable pub next_entry : ℕ → List Entry → Layout (List Entry)
@@ -143,13 +150,13 @@ raws es = do
   many count [] (λ found. raw es)
 
 -- a catch row of a code (JVMS 4.7.3)
-unfoldable pub row : Layout (List (ℕ × ℕ × ℕ × ℕ))
+unfoldable pub row : Layout (List CatchRow)
 row = do
   start ← number w16
   end ← number w16
   handler ← number w16
-  kind ← number w16
-  pure ((start, end, handler, kind) ∷ [])
+  caught ← number w16
+  pure (record { start = start; end = end; handler = handler; caught = caught } ∷ [])
 
 -- a code has 1 to 65,535 bytes; whatever is wrong in it, the fault is at its first byte, so no offset in here is told
 unfoldable pub code : List Entry → Layout Code
@@ -203,7 +210,7 @@ field es = do
   name ← text_index es
   descriptor ← text_index es
   parts ← raws es
-  pure (record { flags = flags; name = name; descriptor = descriptor; attributes = parts } ∷ [])
+  pure (record { flags = record { bits = flags }; name = name; descriptor = descriptor; attributes = parts } ∷ [])
 
 unfoldable pub fields : List Entry → Layout (List Member)
 fields es = do
@@ -216,7 +223,7 @@ method es = do
   name ← text_index es
   descriptor ← text_index es
   parts ← attributes es
-  pure (record { flags = flags; name = name; descriptor = descriptor; attributes = parts } ∷ [])
+  pure (record { flags = record { bits = flags }; name = name; descriptor = descriptor; attributes = parts } ∷ [])
 
 unfoldable pub methods : List Entry → Layout (List Member)
 methods es = do
@@ -246,7 +253,7 @@ class = do
   slots ← fields es
   calls ← methods es
   others ← raws es
-  pure (record { major = major; pool = es; flags = flags; this = this; parent = parent; interfaces = faces; fields = slots; methods = calls; attributes = others })
+  pure (record { major = major; pool = es; flags = record { bits = flags }; this = this; parent = parent; interfaces = faces; fields = slots; methods = calls; attributes = others })
 
 -- the bytes spell the class
 abbrev pub Spells : List ℕ → Class → Type 0

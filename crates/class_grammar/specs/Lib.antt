@@ -1,3 +1,5 @@
+pub mod Bytes
 pub mod FaultText
 pub mod Grammar
 pub mod Layout
+pub mod Valid

@@ -1,10 +1,15 @@
-pub mod Units
-pub mod Chars
-pub mod Texts
-pub mod Firsts
-pub mod Shows
-pub mod Keys
-pub mod Maps
-pub mod Grows
-pub mod Steps
-pub mod Once
+mod Chars
+pub mod CallerLemmas
+mod Entering
+mod Firsts
+mod Grows
+mod Keys
+mod Lengths
+mod Maps
+mod Once
+mod Potential
+mod Shows
+mod Steps
+mod TagBytes
+mod Texts
+mod Units

@@ -5,13 +5,13 @@ use Rattle.std.proofs.lemmas.Bool.{cases_lt}
 use Rattle.std.proofs.lemmas.Bool.Decides.{Decides-int_eq}
 use Rattle.std.proofs.lemmas.List.{take-append-drop}
 use Rattle.std.proofs.lemmas.Slice.Eq.{bytes_eq-Decides}
-use Rattle.std.proofs.lemmas.Bool.{eqb-true}
+use Rattle.std.proofs.lemmas.Bool.{eqb-true, eq-eqb}
 use Rattle.class_pool.specs.declared.entry.Entry.{Entry}
 use Rattle.class_pool.specs.declared.entry.Entry.TheVariants as entry
 use Rattle.class_pool.specs.declared.shown.Shown.{Shown}
 use Rattle.class_pool.specs.declared.shown.Shown.TheVariants as shown
 use Rattle.class_pool.specs.Entries.{entry_at}
-use Rattle.class_pool.specs.Showing.{is_text, is_class_of, is_pair_of, shows, passes, Holds}
+use Rattle.class_pool.specs.Showing.{is_text, is_class_of, is_pair_of, shows, passes, Holds, text_shown, class_shown, name_shown, descriptor_shown, with_text, resolved}
 use Rattle.class_pool.specs.Index.{IsBelow, AreBackward}
 use Rattle.class_pool.proofs.Firsts.{get_front, at_suc}
 
@@ -203,56 +203,25 @@ method_put es fs c n owner t u w is e h k = rw is (member_held fs c n owner t u 
 
 -- ---- an entry shows one thing
 
-abbrev text_at : Option Entry → Option (List ℕ)
-text_at (Some (entry.Utf8 u)) = Some u
-text_at _ = None
-
-abbrev class_at : List Entry → Option Entry → Option (List ℕ)
-class_at es (Some (entry.Class n)) = text_at (entry_at es n)
-class_at es _ = None
-
-abbrev name_at : List Entry → Option Entry → Option (List ℕ)
-name_at es (Some (entry.NameType n d)) = text_at (entry_at es n)
-name_at es _ = None
-
-abbrev descriptor_at : List Entry → Option Entry → Option (List ℕ)
-descriptor_at es (Some (entry.NameType n d)) = text_at (entry_at es d)
-descriptor_at es _ = None
-
-abbrev with_text : Option (List ℕ) → (List ℕ → Option Shown) → Option Shown
-with_text None f = None
-with_text (Some t) f = f t
-
-abbrev shown_of : List Entry → Entry → Option Shown
-shown_of es (entry.Utf8 t) = Some (shown.Text t)
-shown_of es (entry.Integer n) = Some (shown.Integer n)
-shown_of es (entry.Long n) = Some (shown.Long n)
-shown_of es (entry.Class n) = with_text (text_at (entry_at es n)) (λ t. Some (shown.Class t))
-shown_of es (entry.Str n) = with_text (text_at (entry_at es n)) (λ t. Some (shown.Str t))
-shown_of es (entry.NameType n d) = with_text (text_at (entry_at es n)) (λ t. with_text (text_at (entry_at es d)) (λ u. Some (shown.NameType t u)))
-shown_of es (entry.Field n d) = with_text (class_at es (entry_at es n)) (λ c. with_text (name_at es (entry_at es d)) (λ t. with_text (descriptor_at es (entry_at es d)) (λ u. Some (shown.Field c t u))))
-shown_of es (entry.Method n d) = with_text (class_at es (entry_at es n)) (λ c. with_text (name_at es (entry_at es d)) (λ t. with_text (descriptor_at es (entry_at es d)) (λ u. Some (shown.Method c t u))))
-shown_of es _ = None
-
 abbrev a_text : List ℕ → Option (List ℕ)
 a_text t = Some t
 
 abbrev a_shown : Shown → Option Shown
 a_shown w = Some w
 
-text_is : (t : List ℕ) (o : Option Entry) → is_text t o ≡ true → text_at o ≡ Some t
+text_is : (t : List ℕ) (o : Option Entry) → is_text t o ≡ true → text_shown o ≡ Some t
 text_is t (Some (entry.Utf8 u)) h = ap a_text (sym ((bytes_eq-Decides t u).0 h))
 text_is t _ h = absurd cc
 
-class_is : (es : List Entry) (t : List ℕ) (o : Option Entry) → is_class_of es t o ≡ true → class_at es o ≡ Some t
+class_is : (es : List Entry) (t : List ℕ) (o : Option Entry) → is_class_of es t o ≡ true → class_shown es o ≡ Some t
 class_is es t (Some (entry.Class n)) h = text_is t (entry_at es n) h
 class_is es t _ h = absurd cc
 
-pair_is : (es : List Entry) (t u : List ℕ) (o : Option Entry) → is_pair_of es t u o ≡ true → (name_at es o ≡ Some t) × (descriptor_at es o ≡ Some u)
+pair_is : (es : List Entry) (t u : List ℕ) (o : Option Entry) → is_pair_of es t u o ≡ true → (name_shown es o ≡ Some t) × (descriptor_shown es o ≡ Some u)
 pair_is es t u (Some (entry.NameType n d)) h = let b = both _ _ h in (text_is t (entry_at es n) b.0, text_is u (entry_at es d) b.1)
 pair_is es t u _ h = absurd cc
 
-shown_is : (es : List Entry) (w : Shown) (x : Entry) → shows es w x ≡ true → shown_of es x ≡ Some w
+pub shown_is : (es : List Entry) (w : Shown) (x : Entry) → shows es w x ≡ true → resolved es x ≡ Some w
 shown_is es (shown.Text t) (entry.Utf8 u) h = ap (λ (v : List ℕ). a_shown (shown.Text v)) (sym ((bytes_eq-Decides t u).0 h))
 shown_is es (shown.Integer n) (entry.Integer m) h = ap (λ (k : ℕ). a_shown (shown.Integer k)) (sym (eqb-true n m h))
 shown_is es (shown.Long n) (entry.Long m) h = ap (λ (k : ℤ). a_shown (shown.Long k)) (sym ((Decides-int_eq n m).0 h))
@@ -265,6 +234,59 @@ shown_is es _ _ h = absurd cc
 
 pub one_shown : (es : List Entry) (w v : Shown) (x : Entry) → shows es w x ≡ true → shows es v x ≡ true → w ≡ v
 one_shown es w v x p q = let k : a_shown w ≡ a_shown v = sym (shown_is es w x p) ∙ shown_is es v x q in cc
+
+-- ---- and what it resolves to it shows
+
+text_back : (t : List ℕ) (o : Option Entry) → text_shown o ≡ Some t → is_text t o ≡ true
+text_back t (Some (entry.Utf8 u)) h = (bytes_eq-Decides t u).1 (let same : u ≡ t = cc in sym same)
+text_back t _ h = absurd cc
+
+class_back : (es : List Entry) (t : List ℕ) (o : Option Entry) → class_shown es o ≡ Some t → is_class_of es t o ≡ true
+class_back es t (Some (entry.Class n)) h = text_back t (entry_at es n) h
+class_back es t _ h = absurd cc
+
+pair_back : (es : List Entry) (t u : List ℕ) (o : Option Entry) → name_shown es o ≡ Some t → descriptor_shown es o ≡ Some u → is_pair_of es t u o ≡ true
+pair_back es t u (Some (entry.NameType n d)) h k = and_true _ _ (text_back t (entry_at es n) h) (text_back u (entry_at es d) k)
+pair_back es t u _ h k = absurd cc
+
+-- the text that was there
+record HasText (o : Option (List ℕ)) (f : List ℕ → Option Shown) (w : Shown) : Type 0 where
+  text : List ℕ
+  there : o ≡ Some text
+  then_is : f text ≡ Some w
+
+has_text : (o : Option (List ℕ)) (f : List ℕ → Option Shown) (w : Shown) → with_text o f ≡ Some w → HasText o f w
+has_text None f w e = absurd cc
+has_text (Some t) f w e = record { text = t; there = refl; then_is = e }
+
+is_shown : (v w : Shown) → a_shown v ≡ Some w → v ≡ w
+is_shown v w e = cc
+
+pub resolved_shows : (es : List Entry) (x : Entry) (w : Shown) → resolved es x ≡ Some w → shows es w x ≡ true
+resolved_shows es (entry.Utf8 t) w e = subst (λ v. shows es v (entry.Utf8 t) ≡ true) (is_shown (shown.Text t) w e) ((bytes_eq-Decides t t).1 refl)
+resolved_shows es (entry.Integer n) w e = subst (λ v. shows es v (entry.Integer n) ≡ true) (is_shown (shown.Integer n) w e) (eq-eqb n n refl)
+resolved_shows es (entry.Long n) w e = subst (λ v. shows es v (entry.Long n) ≡ true) (is_shown (shown.Long n) w e) ((Decides-int_eq n n).1 refl)
+resolved_shows es (entry.Class n) w e =
+    let a = has_text (text_shown (entry_at es n)) (λ t. Some (shown.Class t)) w e in
+    subst (λ v. shows es v (entry.Class n) ≡ true) (is_shown (shown.Class a.text) w a.then_is) (text_back a.text (entry_at es n) a.there)
+resolved_shows es (entry.Str n) w e =
+    let a = has_text (text_shown (entry_at es n)) (λ t. Some (shown.Str t)) w e in
+    subst (λ v. shows es v (entry.Str n) ≡ true) (is_shown (shown.Str a.text) w a.then_is) (text_back a.text (entry_at es n) a.there)
+resolved_shows es (entry.NameType n d) w e =
+    let a = has_text (text_shown (entry_at es n)) (λ t. with_text (text_shown (entry_at es d)) (λ u. Some (shown.NameType t u))) w e in
+    let b = has_text (text_shown (entry_at es d)) (λ u. Some (shown.NameType a.text u)) w a.then_is in
+    subst (λ v. shows es v (entry.NameType n d) ≡ true) (is_shown (shown.NameType a.text b.text) w b.then_is) (and_true _ _ (text_back a.text (entry_at es n) a.there) (text_back b.text (entry_at es d) b.there))
+resolved_shows es (entry.Field n d) w e =
+    let a = has_text (class_shown es (entry_at es n)) (λ c. with_text (name_shown es (entry_at es d)) (λ t. with_text (descriptor_shown es (entry_at es d)) (λ u. Some (shown.Field c t u)))) w e in
+    let b = has_text (name_shown es (entry_at es d)) (λ t. with_text (descriptor_shown es (entry_at es d)) (λ u. Some (shown.Field a.text t u))) w a.then_is in
+    let c = has_text (descriptor_shown es (entry_at es d)) (λ u. Some (shown.Field a.text b.text u)) w b.then_is in
+    subst (λ v. shows es v (entry.Field n d) ≡ true) (is_shown (shown.Field a.text b.text c.text) w c.then_is) (and_true _ _ (class_back es a.text (entry_at es n) a.there) (pair_back es b.text c.text (entry_at es d) b.there c.there))
+resolved_shows es (entry.Method n d) w e =
+    let a = has_text (class_shown es (entry_at es n)) (λ c. with_text (name_shown es (entry_at es d)) (λ t. with_text (descriptor_shown es (entry_at es d)) (λ u. Some (shown.Method c t u)))) w e in
+    let b = has_text (name_shown es (entry_at es d)) (λ t. with_text (descriptor_shown es (entry_at es d)) (λ u. Some (shown.Method a.text t u))) w a.then_is in
+    let c = has_text (descriptor_shown es (entry_at es d)) (λ u. Some (shown.Method a.text b.text u)) w b.then_is in
+    subst (λ v. shows es v (entry.Method n d) ≡ true) (is_shown (shown.Method a.text b.text c.text) w c.then_is) (and_true _ _ (class_back es a.text (entry_at es n) a.there) (pair_back es b.text c.text (entry_at es d) b.there c.there))
+resolved_shows es _ w e = absurd cc
 
 shows_by_gap : (es : List Entry) (w : Shown) → shows es w entry.Gap ≡ false
 shows_by_gap es (shown.Text t) = refl

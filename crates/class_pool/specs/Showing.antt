@@ -51,3 +51,38 @@ first_from test i (e ∷ es) = cond (test e) (Some i) (first_from test (i + 1) e
 -- the least index that holds an entry which shows this
 abbrev pub least : Shown → List Entry → Option ℕ
 least what pool = first_from (shows pool what) 1 pool
+
+-- ---- what an entry shows
+
+-- the text that the entry is; the name of the class; the name and the descriptor of the pair
+abbrev pub text_shown : Option Entry → Option (List ℕ)
+text_shown (Some (entry.Utf8 u)) = Some u
+text_shown _ = None
+
+abbrev pub class_shown : List Entry → Option Entry → Option (List ℕ)
+class_shown es (Some (entry.Class n)) = text_shown (entry_at es n)
+class_shown es _ = None
+
+abbrev pub name_shown : List Entry → Option Entry → Option (List ℕ)
+name_shown es (Some (entry.NameType n d)) = text_shown (entry_at es n)
+name_shown es _ = None
+
+abbrev pub descriptor_shown : List Entry → Option Entry → Option (List ℕ)
+descriptor_shown es (Some (entry.NameType n d)) = text_shown (entry_at es d)
+descriptor_shown es _ = None
+
+abbrev pub with_text : Option (List ℕ) → (List ℕ → Option Shown) → Option Shown
+with_text None f = None
+with_text (Some t) f = f t
+
+-- what the entry shows, its references followed to their texts; a float, a double, an interface's method and a gap show nothing here
+abbrev pub resolved : List Entry → Entry → Option Shown
+resolved es (entry.Utf8 t) = Some (shown.Text t)
+resolved es (entry.Integer n) = Some (shown.Integer n)
+resolved es (entry.Long n) = Some (shown.Long n)
+resolved es (entry.Class n) = with_text (text_shown (entry_at es n)) (λ t. Some (shown.Class t))
+resolved es (entry.Str n) = with_text (text_shown (entry_at es n)) (λ t. Some (shown.Str t))
+resolved es (entry.NameType n d) = with_text (text_shown (entry_at es n)) (λ t. with_text (text_shown (entry_at es d)) (λ u. Some (shown.NameType t u)))
+resolved es (entry.Field n d) = with_text (class_shown es (entry_at es n)) (λ c. with_text (name_shown es (entry_at es d)) (λ t. with_text (descriptor_shown es (entry_at es d)) (λ u. Some (shown.Field c t u))))
+resolved es (entry.Method n d) = with_text (class_shown es (entry_at es n)) (λ c. with_text (name_shown es (entry_at es d)) (λ t. with_text (descriptor_shown es (entry_at es d)) (λ u. Some (shown.Method c t u))))
+resolved es _ = None

@@ -1,3 +1,4 @@
+use crate::flags::Flags;
 use crate::pool::Pool;
 use item_types::{Bytes, Seq};
 
@@ -24,17 +25,31 @@ pub struct Code {
     pub max_locals: u16,
     /// The instructions.
     pub code: Bytes,
-    /// The catch rows: start, end and handler in the code, and the pool index of the class caught.
-    pub catches: Seq<(u16, u16, u16, u16)>,
+    /// The catch rows, in order.
+    pub catches: Seq<CatchRow>,
     /// The code's own attributes.
     pub attributes: Seq<Attribute>,
+}
+
+/// A row of a code's table of exceptions (JVMS 4.7.3): where it holds, where its handler begins, and
+/// what is caught there.
+#[derive(Clone, Copy, Debug)]
+pub struct CatchRow {
+    /// The place in the code from which on the row holds.
+    pub start: u16,
+    /// The place behind the last at which it holds.
+    pub end: u16,
+    /// The place at which the handler begins.
+    pub handler: u16,
+    /// The pool index of the class caught, or 0 for all.
+    pub caught: u16,
 }
 
 /// A field or a method (JVMS 4.5, 4.6), by the pool indices of its name and descriptor.
 #[derive(Drop)]
 pub struct Member {
     /// The access flags.
-    pub flags: u16,
+    pub flags: Flags,
     /// The index of the name's text.
     pub name: u16,
     /// The index of the descriptor's text.
@@ -51,7 +66,7 @@ pub struct Class {
     /// The constant pool.
     pub pool: Pool,
     /// The access flags.
-    pub flags: u16,
+    pub flags: Flags,
     /// The index of the class's own `Class` entry.
     pub this: u16,
     /// The index of the parent's `Class` entry, or 0 for none.

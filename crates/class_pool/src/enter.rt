@@ -1,6 +1,6 @@
 ghost use Rattle.std.specs.Prelude.{◌≡◌, length, take, IfOk};
 ghost use Rattle.class_pool.specs.Enter as spec;
-ghost use Rattle.class_pool.specs.Enter.{Enters, Steps, after, put};
+ghost use Rattle.class_pool.specs.Enter.{Enters, Steps, after, enter, put};
 ghost use Rattle.class_pool.specs.Showing.{Holds};
 ghost use Rattle.class_pool.specs.declared.entry.Entry.TheVariants as entry;
 ghost use Rattle.class_pool.specs.declared.shown.Shown.TheVariants as shown;
@@ -107,6 +107,25 @@ impl Pool {
         }
     }
 
+    /// The index of the name with that descriptor.
+    ///
+    /// # Errors
+    /// `Full` exactly where an index would pass 65,534, `Memory` for want of memory.
+    pub fn name_type(&mut self, name: &Text, descriptor: &Text) -> Result<u16, PoolErr>
+        ensures does { Enters (spec.name_type name.now descriptor.now self.old) result self.old self.new }
+        ensures holds { IfOk result (λ i. Holds self.new i (shown.NameType name.now descriptor.now)) }
+        ensures stays { take (length self.old) self.new ≡ self.old }
+    {
+        let len = self.entries().len();
+        match self.name_type_in(name, descriptor) {
+            Ok(index) => Ok(index),
+            Err(fault) => {
+                self.cut(len);
+                Err(fault)
+            }
+        }
+    }
+
     /// The index of the field of that class, name and descriptor.
     ///
     /// # Errors
@@ -142,6 +161,27 @@ impl Pool {
                 self.cut(len);
                 Err(fault)
             }
+        }
+    }
+
+    /// The index of an entry that shows this.
+    ///
+    /// # Errors
+    /// `Full` exactly where an index would pass 65,534, `Memory` for want of memory.
+    pub fn enter(&mut self, what: &Shown) -> Result<u16, PoolErr>
+        ensures does { Enters (enter what.now self.old) result self.old self.new }
+        ensures holds { IfOk result (λ i. Holds self.new i what.now) }
+        ensures stays { take (length self.old) self.new ≡ self.old }
+    {
+        match what {
+            Shown::Text(text) => self.utf8(text),
+            Shown::Integer(n) => self.integer(*n),
+            Shown::Long(n) => self.long(*n),
+            Shown::Class(name) => self.class(name),
+            Shown::Str(text) => self.string(text),
+            Shown::NameType(name, descriptor) => self.name_type(name, descriptor),
+            Shown::Field(class, name, descriptor) => self.field(class, name, descriptor),
+            Shown::Method(class, name, descriptor) => self.method(class, name, descriptor),
         }
     }
 

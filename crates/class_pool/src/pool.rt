@@ -81,7 +81,7 @@ impl Pool {
     }
 
     /// The least index that holds an entry which shows this.
-    pub fn find(&self, what: &Shown) -> Result<Option<u16>, AllocError>
+    pub(crate) fn find(&self, what: &Shown) -> Result<Option<u16>, AllocError>
         ensures least { IfOk result (λ o. o ≡ least what.now self.now) }
         ensures holds { IfOk result (λ o. IfSome o (λ i. Holds self.now i what.now)) }
     {
@@ -95,7 +95,7 @@ impl Pool {
 
     /// The entry, which shows this, at the next index. In a pool from a file an earlier entry may
     /// show the same by now, since the parts that were just entered can have been what it lacked.
-    pub fn put(&mut self, entry: Entry, what: &Shown) -> Result<u16, PoolErr>
+    pub(crate) fn put(&mut self, entry: Entry, what: &Shown) -> Result<u16, PoolErr>
         requires { shows self.old what.now entry ≡ true }
         ensures does { Enters (put entry self.old) result self.old self.new }
         ensures holds { IfOk result (λ i. Holds self.new i what.now) }
@@ -132,7 +132,7 @@ impl Pool {
     }
 
     /// The entry, which shows this, and a gap at the next two indices.
-    pub fn put_two(&mut self, entry: Entry, what: &Shown) -> Result<u16, PoolErr>
+    pub(crate) fn put_two(&mut self, entry: Entry, what: &Shown) -> Result<u16, PoolErr>
         requires { shows self.old what.now entry ≡ true }
         ensures does { Enters (put_two entry self.old) result self.old self.new }
         ensures holds { IfOk result (λ i. Holds self.new i what.now) }
@@ -153,7 +153,7 @@ impl Pool {
     }
 
     /// The first so many entries alone.
-    pub fn cut(&mut self, len: usize)
+    pub(crate) fn cut(&mut self, len: usize)
         requires { len ≤ length self.old }
         ensures { self.new ≡ take len self.old }
     {

@@ -7,7 +7,7 @@ ghost use Rattle.class_grammar.specs.Grammar as spec;
 use crate::constants::text_index;
 use crate::cursor::Cursor;
 use crate::entries::is_code_text;
-use class_pool::{Attribute, ClassFault, Code, Entry};
+use class_pool::{Attribute, CatchRow, ClassFault, Code, Entry};
 use item_types::Seq;
 use std::alloc::Global;
 
@@ -58,21 +58,22 @@ pub fn raws(
 }
 
 #[tactic(auto, unfolding(class_grammar::specs::Grammar::row))]
-fn row(cursor: &mut Cursor<'_>) -> Result<(u16, u16, u16, u16), ClassFault>
+fn row(cursor: &mut Cursor<'_>) -> Result<CatchRow, ClassFault>
     ensures { ReadsBy (λ a. a ∷ []) (spec.row.read cursor.old) result cursor.new }
 {
     let start = cursor.u2()?;
     let end = cursor.u2()?;
     let handler = cursor.u2()?;
-    let kind = cursor.u2()?;
-    Ok((start, end, handler, kind))
+    let caught = cursor.u2()?;
+    Ok(CatchRow {
+        start,
+        end,
+        handler,
+        caught,
+    })
 }
 
-fn rows(
-    alloc: Global,
-    cursor: &mut Cursor<'_>,
-    count: u16,
-) -> Result<Seq<(u16, u16, u16, u16)>, ClassFault>
+fn rows(alloc: Global, cursor: &mut Cursor<'_>, count: u16) -> Result<Seq<CatchRow>, ClassFault>
     ensures { Reads ((many count [] (λ found. spec.row)).read cursor.old) result cursor.new }
 {
     let mut found = Seq::new(alloc);

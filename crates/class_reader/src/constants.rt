@@ -4,7 +4,7 @@ ghost use Rattle.class_grammar.specs.Grammar as spec;
 
 use crate::cursor::Cursor;
 use crate::entries::{bad, is_class, is_utf8};
-use class_pool::{ClassFault, Entry, Pool, decode_text};
+use class_pool::{ClassFault, Entry, Pool, Tag, decode_text};
 use std::alloc::Global;
 
 #[tactic(auto, unfolding(class_grammar::specs::Grammar::utf8))]
@@ -66,7 +66,7 @@ fn pair(cursor: &mut Cursor<'_>) -> Result<(u16, u16), ClassFault>
 }
 
 /// What follows a tag, behind the entries that were found.
-#[tactic(auto, unfolding(class_grammar::specs::Grammar::entry_of, class_grammar::specs::Grammar::one, class_grammar::specs::Grammar::four, class_grammar::specs::Grammar::two))]
+#[tactic(auto, unfolding(class_grammar::specs::Grammar::entry_with, class_grammar::specs::Grammar::one, class_grammar::specs::Grammar::four, class_grammar::specs::Grammar::two))]
 fn entry_of(
     alloc: Global,
     cursor: &mut Cursor<'_>,
@@ -79,47 +79,47 @@ fn entry_of(
     ensures reads { Grows ((spec.entry_of index count tag).read cursor.old) result cursor.new found.old.items found.new.items }
     ensures small { OnOk result (length found.new.items + 1 ≤ count) }
 {
-    match tag {
-        1 => {
+    match Tag::of(tag) {
+        Some(Tag::Utf8) => {
             found.push(utf8(alloc, cursor, index)?)?;
         }
-        3 => {
+        Some(Tag::Integer) => {
             found.push(Entry::Integer(cursor.u4()?))?;
         }
-        4 => {
+        Some(Tag::Float) => {
             found.push(Entry::Float(cursor.u4()?))?;
         }
-        5 => {
+        Some(Tag::Long) => {
             found.push(long(cursor, index, count)?)?;
             found.push(Entry::Gap)?;
         }
-        6 => {
+        Some(Tag::Double) => {
             found.push(double(cursor, index, count)?)?;
             found.push(Entry::Gap)?;
         }
-        7 => {
+        Some(Tag::Class) => {
             found.push(Entry::Class(cursor.u2()?))?;
         }
-        8 => {
+        Some(Tag::Str) => {
             found.push(Entry::Str(cursor.u2()?))?;
         }
-        9 => {
+        Some(Tag::Field) => {
             let (a, b) = pair(cursor)?;
             found.push(Entry::Field(a, b))?;
         }
-        10 => {
+        Some(Tag::Method) => {
             let (a, b) = pair(cursor)?;
             found.push(Entry::Method(a, b))?;
         }
-        11 => {
+        Some(Tag::Interface) => {
             let (a, b) = pair(cursor)?;
             found.push(Entry::Interface(a, b))?;
         }
-        12 => {
+        Some(Tag::NameType) => {
             let (a, b) = pair(cursor)?;
             found.push(Entry::NameType(a, b))?;
         }
-        _ => return Err(ClassFault::Pool { index }),
+        None => return Err(ClassFault::Pool { index }),
     }
     Ok(())
 }

@@ -5,7 +5,7 @@ ghost use Rattle.class_grammar.specs.Grammar as spec;
 use crate::attributes::{attributes, raws};
 use crate::constants::{class_index, text_index};
 use crate::cursor::Cursor;
-use class_pool::{ClassFault, Entry, Member};
+use class_pool::{ClassFault, Entry, Flags, Member};
 use item_types::Seq;
 use std::alloc::Global;
 
@@ -48,12 +48,12 @@ pub fn interfaces(
 fn field(alloc: Global, cursor: &mut Cursor<'_>, es: &[Entry]) -> Result<Member, ClassFault>
     ensures { ReadsBy (λ m. m ∷ []) ((spec.field es.now).read cursor.old) result cursor.new }
 {
-    let flags = cursor.u2()?;
+    let bits = cursor.u2()?;
     let name = text_index(cursor, es)?;
     let descriptor = text_index(cursor, es)?;
     let attributes = raws(alloc, cursor, es)?;
     Ok(Member {
-        flags,
+        flags: Flags { bits },
         name,
         descriptor,
         attributes,
@@ -92,12 +92,12 @@ pub fn fields(
 fn method(alloc: Global, cursor: &mut Cursor<'_>, es: &[Entry]) -> Result<Member, ClassFault>
     ensures { ReadsBy (λ m. m ∷ []) ((spec.method es.now).read cursor.old) result cursor.new }
 {
-    let flags = cursor.u2()?;
+    let bits = cursor.u2()?;
     let name = text_index(cursor, es)?;
     let descriptor = text_index(cursor, es)?;
     let attributes = attributes(alloc, cursor, es)?;
     Ok(Member {
-        flags,
+        flags: Flags { bits },
         name,
         descriptor,
         attributes,

@@ -4,12 +4,13 @@ ghost use Rattle.class_pool.specs.declared.fault.ClassFault.{ClassFault};
 ghost use Rattle.class_pool.specs.declared.fault.ClassFault.TheVariants as fault;
 ghost use Rattle.class_grammar.specs.Layout.{Reads, ReadsBy, Told};
 ghost use Rattle.class_grammar.specs.Grammar as spec;
+ghost use Rattle.class_grammar.specs.Valid.{IsValid};
 
 use crate::attributes::raws;
 use crate::constants::{class_index, parent_index, pool};
 use crate::cursor::Cursor;
 use crate::members::{fields, interfaces, methods};
-use class_pool::{CLASS_LIMIT, Class, ClassFault};
+use class_pool::{CLASS_LIMIT, Class, ClassFault, Flags};
 use std::alloc::Global;
 
 fn magic(cursor: &mut Cursor<'_>) -> Result<(), ClassFault>
@@ -43,7 +44,7 @@ fn class(alloc: Global, cursor: &mut Cursor<'_>) -> Result<Class, ClassFault>
     magic(cursor)?;
     let major = version(cursor)?;
     let pool = pool(alloc, cursor)?;
-    let flags = cursor.u2()?;
+    let bits = cursor.u2()?;
     let this = class_index(cursor, pool.entries())?;
     let parent = parent_index(cursor, pool.entries())?;
     let interfaces = interfaces(alloc, cursor, pool.entries())?;
@@ -53,7 +54,7 @@ fn class(alloc: Global, cursor: &mut Cursor<'_>) -> Result<Class, ClassFault>
     Ok(Class {
         major,
         pool,
-        flags,
+        flags: Flags { bits },
         this,
         parent,
         interfaces,
@@ -84,6 +85,7 @@ fn file(alloc: Global, bytes: &[u8]) -> Result<Class, ClassFault>
 pub fn read_class(alloc: Global, bytes: &[u8]) -> Result<Class, ClassFault>
     requires { length bytes.now ≤ CLASS_LIMIT }
     ensures spells { IfOk result (λ c. spec.Spells bytes.now c) }
+    ensures valid { IfOk result (λ c. IsValid c) }
     ensures only { (c : Class) → spec.Spells bytes.now c → Told (Ok c) result }
     ensures stuck { (f : ClassFault) → result ≡ Err f → (f ≡ fault.Memory → ⊥) → spec.IsStuck bytes.now f }
     ensures first { (f : ClassFault) → spec.IsStuck bytes.now f → Told (Err f) result }

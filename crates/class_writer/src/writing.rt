@@ -1,16 +1,18 @@
 ghost use Rattle.std.specs.Prelude.{◌≡◌, ◌+◌, ◌/◌, ◌%◌, ◌<◌, ◌^◌, [], ◌∷◌, ◌++◌, List, ℕ, length, IfOk, OnOk};
 ghost use Rattle.std.specs.List.{flat_map};
+ghost use Rattle.class_pool.specs.Tags.{byte_of};
 ghost use Rattle.class_grammar.specs.Grammar.{Spells};
-ghost use Rattle.class_writer.specs.Bytes as spec;
+ghost use Rattle.class_grammar.specs.Valid.{IsValid};
+ghost use Rattle.class_grammar.specs.Bytes as spec;
 
-use class_pool::{Attribute, Class, Code, Entry, Member, encode_text};
+use class_pool::{Attribute, CatchRow, Class, Code, Entry, Member, Tag, encode_text};
 use item_types::{Bytes, Memory, Seq};
 use std::alloc::{AllocError, Global};
 
-fn put_u1(out: &mut Vec<u8>, n: u8) -> Result<(), AllocError>
-    ensures { OnOk result (out.new.items ≡ out.old.items ++ n ∷ []) }
+fn put_tag(out: &mut Vec<u8>, tag: Tag) -> Result<(), AllocError>
+    ensures { OnOk result (out.new.items ≡ out.old.items ++ byte_of tag ∷ []) }
 {
-    out.push(n)?;
+    out.push(tag.byte())?;
     Ok(())
 }
 
@@ -26,25 +28,25 @@ fn put_u4(out: &mut Vec<u8>, n: u64) -> Result<(), AllocError>
     out.extend_from_slice(&((n % 0x1_0000_0000) as u32).to_be_bytes())
 }
 
-fn put_pair(out: &mut Vec<u8>, tag: u8, a: u16, b: u16) -> Result<(), AllocError>
-    ensures { OnOk result (out.new.items ≡ out.old.items ++ (tag ∷ [] ++ (spec.u2 a ++ spec.u2 b))) }
+fn put_pair(out: &mut Vec<u8>, tag: Tag, a: u16, b: u16) -> Result<(), AllocError>
+    ensures { OnOk result (out.new.items ≡ out.old.items ++ (byte_of tag ∷ [] ++ (spec.u2 a ++ spec.u2 b))) }
 {
-    out.push(tag)?;
+    put_tag(out, tag)?;
     put_u2(out, a as usize)?;
     put_u2(out, b as usize)
 }
 
-fn put_one(out: &mut Vec<u8>, tag: u8, a: u16) -> Result<(), AllocError>
-    ensures { OnOk result (out.new.items ≡ out.old.items ++ (tag ∷ [] ++ spec.u2 a)) }
+fn put_one(out: &mut Vec<u8>, tag: Tag, a: u16) -> Result<(), AllocError>
+    ensures { OnOk result (out.new.items ≡ out.old.items ++ (byte_of tag ∷ [] ++ spec.u2 a)) }
 {
-    out.push(tag)?;
+    put_tag(out, tag)?;
     put_u2(out, a as usize)
 }
 
-fn put_eight(out: &mut Vec<u8>, tag: u8, n: u64) -> Result<(), AllocError>
-    ensures { OnOk result (out.new.items ≡ out.old.items ++ (tag ∷ [] ++ (spec.u4 (n / 0x1_0000_0000) ++ spec.u4 (n % 0x1_0000_0000)))) }
+fn put_eight(out: &mut Vec<u8>, tag: Tag, n: u64) -> Result<(), AllocError>
+    ensures { OnOk result (out.new.items ≡ out.old.items ++ (byte_of tag ∷ [] ++ (spec.u4 (n / 0x1_0000_0000) ++ spec.u4 (n % 0x1_0000_0000)))) }
 {
-    out.push(tag)?;
+    put_tag(out, tag)?;
     put_u4(out, n / 0x1_0000_0000)?;
     put_u4(out, n % 0x1_0000_0000)
 }
@@ -63,26 +65,26 @@ fn put_entry(alloc: Global, out: &mut Vec<u8>, entry: &Entry) -> Result<(), Memo
     match entry {
         Entry::Utf8(text) => {
             let bytes = encode_text(alloc, text)?;
-            put_u1(out, 1)?;
+            put_tag(out, Tag::Utf8)?;
             put_u2(out, bytes.as_slice().len())?;
             out.extend_from_slice(bytes.as_slice())?;
         }
         Entry::Integer(n) => {
-            put_u1(out, 3)?;
+            put_tag(out, Tag::Integer)?;
             put_u4(out, *n as u64)?;
         }
         Entry::Float(n) => {
-            put_u1(out, 4)?;
+            put_tag(out, Tag::Float)?;
             put_u4(out, *n as u64)?;
         }
-        Entry::Long(n) => put_eight(out, 5, n.cast_unsigned())?,
-        Entry::Double(n) => put_eight(out, 6, *n)?,
-        Entry::Class(n) => put_one(out, 7, *n)?,
-        Entry::Str(n) => put_one(out, 8, *n)?,
-        Entry::Field(a, b) => put_pair(out, 9, *a, *b)?,
-        Entry::Method(a, b) => put_pair(out, 10, *a, *b)?,
-        Entry::Interface(a, b) => put_pair(out, 11, *a, *b)?,
-        Entry::NameType(a, b) => put_pair(out, 12, *a, *b)?,
+        Entry::Long(n) => put_eight(out, Tag::Long, n.cast_unsigned())?,
+        Entry::Double(n) => put_eight(out, Tag::Double, *n)?,
+        Entry::Class(n) => put_one(out, Tag::Class, *n)?,
+        Entry::Str(n) => put_one(out, Tag::Str, *n)?,
+        Entry::Field(a, b) => put_pair(out, Tag::Field, *a, *b)?,
+        Entry::Method(a, b) => put_pair(out, Tag::Method, *a, *b)?,
+        Entry::Interface(a, b) => put_pair(out, Tag::Interface, *a, *b)?,
+        Entry::NameType(a, b) => put_pair(out, Tag::NameType, *a, *b)?,
         Entry::Gap => {}
     }
     Ok(())
@@ -106,15 +108,21 @@ fn length_of(entries: &[Entry]) -> usize
     entries.len()
 }
 
-fn put_rows(out: &mut Vec<u8>, rows: &[(u16, u16, u16, u16)]) -> Result<(), AllocError>
+fn put_row(out: &mut Vec<u8>, row: &CatchRow) -> Result<(), AllocError>
+    ensures { OnOk result (out.new.items ≡ out.old.items ++ spec.row_bytes row.now) }
+{
+    put_u2(out, row.start as usize)?;
+    put_u2(out, row.end as usize)?;
+    put_u2(out, row.handler as usize)?;
+    put_u2(out, row.caught as usize)
+}
+
+fn put_rows(out: &mut Vec<u8>, rows: &[CatchRow]) -> Result<(), AllocError>
     ensures { OnOk result (out.new.items ≡ out.old.items ++ (spec.u2 (length rows.now) ++ flat_map spec.row_bytes rows.now)) }
 {
     put_u2(out, rows.len())?;
     for row in rows {
-        put_u2(out, row.0 as usize)?;
-        put_u2(out, row.1 as usize)?;
-        put_u2(out, row.2 as usize)?;
-        put_u2(out, row.3 as usize)?;
+        put_row(out, row)?;
     }
     Ok(())
 }
@@ -186,7 +194,7 @@ fn put_members(alloc: Global, out: &mut Vec<u8>, members: &[Member]) -> Result<(
 fn put_member(alloc: Global, out: &mut Vec<u8>, member: &Member) -> Result<(), AllocError>
     ensures { OnOk result (out.new.items ≡ out.old.items ++ spec.member_bytes member.now) }
 {
-    put_u2(out, member.flags as usize)?;
+    put_u2(out, member.flags.bits as usize)?;
     put_u2(out, member.name as usize)?;
     put_u2(out, member.descriptor as usize)?;
     put_attributes(alloc, out, member.attributes.as_slice())
@@ -200,7 +208,7 @@ fn bytes_of(alloc: Global, class: &Class) -> Result<Bytes, Memory>
     put_u2(&mut out, 0)?;
     put_u2(&mut out, class.major as usize)?;
     put_pool(alloc, &mut out, class.pool.entries())?;
-    put_u2(&mut out, class.flags as usize)?;
+    put_u2(&mut out, class.flags.bits as usize)?;
     put_u2(&mut out, class.this as usize)?;
     put_u2(&mut out, class.parent as usize)?;
     put_interfaces(&mut out, class.interfaces.as_slice())?;
@@ -210,14 +218,16 @@ fn bytes_of(alloc: Global, class: &Class) -> Result<Bytes, Memory>
     Ok(Seq::from_vec(out))
 }
 
-/// The bytes that spell the class. The class is valid: some bytes spell it, as those did from which
-/// it was read.
+/// The bytes that spell the class, as the file of its name has them. The class is valid: all its
+/// indices refer to entries of the right kinds and its counts fit, as in every class that was read
+/// from bytes (`class_valid::valid_exactly`).
 ///
 /// # Errors
 /// `Memory` for want of memory.
 pub fn write_class(alloc: Global, class: &Class) -> Result<Bytes, Memory>
-    requires { (bytes : List ℕ) × Spells bytes class.now }
-    ensures { IfOk result (λ b. Spells b class.now) }
+    requires { IsValid class.now }
+    ensures spells { IfOk result (λ b. Spells b class.now) }
+    ensures bytes { IfOk result (λ b. b ≡ spec.class_bytes class.now) }
 {
     bytes_of(alloc, class)
 }

@@ -1,4 +1,5 @@
-use Rattle.std.proofs.Common.{◌∙◌, ap, sym, ℕ, ◌+◌, List, ◌++◌, append-nil, length, drop, string_bytes}
+use Rattle.std.proofs.Common.{◌∙◌, ap, sym, ℕ, ◌+◌, List, ◌++◌, append-nil, length, drop, string_bytes, arith}
+use Rattle.class_code.specs.Opcodes.{size}
 use Rattle.std.proofs.lemmas.List.{append_assoc}
 use Rattle.class_dump.specs.Dump.{code_lines, instruction_line}
 use Rattle.class_dump.proofs.Lines.{next_line, last_line, no_lines}
@@ -10,9 +11,11 @@ returns-in_ok-push_instruction-in-Some-clause-line c =
     let bytes = c.args.bytes.now in
     let old = string_bytes c.args.out.now in
     let d = c.in-Some.instruction in
-    let rest = code_lines 0 (pc + d.size) (drop d.size bytes) in
-    ap (λ (w : List ℕ). w ++ rest) c.in_ok-push_instruction-in-Some.ensures ∙ append_assoc old (instruction_line pc d) rest
-    ∙ ap (λ (w : List ℕ). old ++ w) (sym (next_line pc bytes d (sym c.in-Some.ensures.instruction) c.in-Some.ensures.size.0 c.in-Some.ensures.size.1))
+    let n = size d.opcode in
+    let rest = code_lines 0 (pc + n) (drop n bytes) in
+    ap (λ (k : ℕ). string_bytes c.push_instruction.new.out ++ code_lines 0 (pc + k) (drop k bytes)) c.size.ensures.size
+    ∙ ap (λ (w : List ℕ). w ++ rest) c.in_ok-push_instruction-in-Some.ensures ∙ append_assoc old (instruction_line pc d) rest
+    ∙ ap (λ (w : List ℕ). old ++ w) (sym (next_line pc bytes _ d c.in-Some.ensures.read (omega (arith, c.size.ensures.size, c.size.ensures.some)) (omega (arith, c.in-Some.ensures.size))))
 
 pub returns-in_ok-push_bytes-in-None-clause-line : goal.returns-in_ok-push_bytes-in-None-clause-line
 returns-in_ok-push_bytes-in-None-clause-line c =
@@ -20,4 +23,4 @@ returns-in_ok-push_bytes-in-None-clause-line c =
     let bytes = c.args.bytes.now in
     let old = string_bytes c.args.out.now in
     ap (λ (w : List ℕ). string_bytes c.push_bytes.new.out ++ w) (no_lines (pc + length bytes) bytes) ∙ append-nil (string_bytes c.push_bytes.new.out)
-    ∙ c.in_ok-push_bytes-in-None.ensures ∙ ap (λ (w : List ℕ). old ++ w) (sym (last_line pc bytes (sym c.in-None.ensures.instruction) c.requires))
+    ∙ c.in_ok-push_bytes-in-None.ensures ∙ ap (λ (w : List ℕ). old ++ w) (sym (last_line pc bytes c.in-None.ensures.read c.requires))

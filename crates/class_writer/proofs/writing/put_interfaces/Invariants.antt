@@ -1,6 +1,6 @@
 use Rattle.std.proofs.Common.{◌≡◌, ◌++◌, length, drop}
 use Rattle.std.specs.List.{flat_map}
-use Rattle.class_writer.specs.Bytes.{u2}
+use Rattle.class_grammar.specs.Bytes.{u2}
 use Rattle.class_writer.proofs.writing.put_interfaces.Given as goal
 
 abbrev pub invariant-loop-interface : goal.invariant-loop-interface

@@ -3,15 +3,15 @@ use Rattle.std.proofs.Common.{◌≡◌, ℕ, ◌+◌, List, ◌++◌}
 use Rattle.class_pool.specs.declared.entry.Entry.{Entry}
 use Rattle.class_pool.specs.declared.class.Member.{Member}
 use Rattle.class_grammar.specs.Grammar.{interface, interfaces, field, fields, attributes, method, methods}
-use Rattle.class_writer.specs.Bytes.{u2, attributes_bytes, member_bytes, members_bytes, interfaces_bytes}
-use Rattle.class_writer.proofs.Joined.{n16, join, end, single, Ones, count_then, t16}
-use Rattle.class_writer.proofs.Attributes.{raws_spelled, attributes_spelled}
+use Rattle.class_grammar.specs.Bytes.{u2, attributes_bytes, member_bytes, members_bytes, interfaces_bytes}
+use Rattle.class_valid.proofs.Joined.{n16, join, end, single, Ones, count_then, t16}
+use Rattle.class_valid.proofs.Attributes.{raws_spelled, attributes_spelled}
 
 method_ones : (es : List Entry) → Ones member_bytes (method es)
 unfolding method
 method_ones es xs bytes h =
     let b = h.second in let c = b.second in let d = c.second in
-    single member_bytes (record { flags = h.value; name = b.value; descriptor = c.value; attributes = d.value }) xs bytes d.second.is
+    single member_bytes (record { flags = record { bits = h.value }; name = b.value; descriptor = c.value; attributes = d.value }) xs bytes d.second.is
     (join h (u2 h.value) (u2 b.value ++ (u2 c.value ++ attributes_bytes d.value)) (n16 _ _ h.first) (join b (u2 b.value) (u2 c.value ++ attributes_bytes d.value) (t16 _ b.value b.front b.first) (join c (u2 c.value) (attributes_bytes d.value) (t16 _ c.value c.front c.first) (end d (attributes_bytes d.value) (attributes_spelled es d.value d.front d.first) d.second.none))))
 
 pub methods_spelled : (es : List Entry) (ys : List Member) (bytes : List ℕ) → (methods es).Spells ys bytes → bytes ≡ members_bytes ys
@@ -22,7 +22,7 @@ field_ones : (es : List Entry) → Ones member_bytes (field es)
 unfolding field
 field_ones es xs bytes h =
     let b = h.second in let c = b.second in let d = c.second in
-    single member_bytes (record { flags = h.value; name = b.value; descriptor = c.value; attributes = d.value }) xs bytes d.second.is
+    single member_bytes (record { flags = record { bits = h.value }; name = b.value; descriptor = c.value; attributes = d.value }) xs bytes d.second.is
     (join h (u2 h.value) (u2 b.value ++ (u2 c.value ++ attributes_bytes d.value)) (n16 _ _ h.first) (join b (u2 b.value) (u2 c.value ++ attributes_bytes d.value) (t16 _ b.value b.front b.first) (join c (u2 c.value) (attributes_bytes d.value) (t16 _ c.value c.front c.first) (end d (attributes_bytes d.value) (raws_spelled es d.value d.front d.first) d.second.none))))
 
 pub fields_spelled : (es : List Entry) (ys : List Member) (bytes : List ℕ) → (fields es).Spells ys bytes → bytes ≡ members_bytes ys

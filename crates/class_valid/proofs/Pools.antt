@@ -6,15 +6,19 @@ use Rattle.std.proofs.lemmas.Bool.{eqb-true, ltb-true, ltb-false}
 use Rattle.std.proofs.lemmas.List.{append-nil}
 use Rattle.std.proofs.lemmas.Int.{of_z-to_z}
 use Rattle.class_pool.specs.Modified.{modified}
-use Rattle.class_pool.proofs.Texts.{text_takes}
+use Rattle.class_pool.specs.Tags.{tag_of, byte_of}
+use Rattle.class_pool.specs.declared.tag.Tag.{Tag}
+use Rattle.class_pool.specs.declared.tag.Tag.TheVariants as tag
+use Rattle.class_pool.proofs.CallerLemmas.{text_takes, tag_only}
+use Rattle.std.specs.Prelude.{Option}
 use Rattle.class_pool.specs.declared.entry.Entry.{Entry}
 use Rattle.class_pool.specs.declared.entry.Entry.TheVariants as entry
 use Rattle.class_pool.specs.declared.class.Class.{Class}
 use Rattle.class_pool.specs.declared.fault.ClassFault.{ClassFault}
 use Rattle.class_grammar.specs.Layout.{Layout, SpellsNumber, Chosen, yes, no, pure, refused, many}
-use Rattle.class_grammar.specs.Grammar.{four, eight, double_of, pool, next_entry, entry_from, entry_of, utf8, long, one, two, pair}
-use Rattle.class_writer.specs.Bytes.{u2, u4, entry_bytes, pool_bytes}
-use Rattle.class_writer.proofs.Joined.{n16, n32, join, end, glue, checked_value, t16}
+use Rattle.class_grammar.specs.Grammar.{four, eight, double_of, pool, next_entry, entry_from, entry_with, utf8, long, one, two, pair}
+use Rattle.class_grammar.specs.Bytes.{u2, u4, entry_bytes, pool_bytes}
+use Rattle.class_valid.proofs.Joined.{n16, n32, join, end, glue, checked_value, t16}
 
 -- a tag, and what stands behind it
 abbrev Tagged : ℕ → Layout (List Entry) → Type 0
@@ -55,7 +59,7 @@ eight_end : (high low : ℕ) (b : Bool) (n : ℕ) (bytes : List ℕ) (f : ClassF
 eight_end high low b n bytes f (yes e s) = (s.is, s.none, e)
 eight_end high low b n bytes f (no e s) = absurd s
 
-eight_spelled : (i count n : ℕ) (bytes : List ℕ) → (eight i count).Spells n bytes → (bytes ≡ u4 (n / 0x1_0000_0000) ++ u4 (n % 0x1_0000_0000)) × (n < 2 ^ 64) × (i + 1 < count)
+pub eight_spelled : (i count n : ℕ) (bytes : List ℕ) → (eight i count).Spells n bytes → (bytes ≡ u4 (n / 0x1_0000_0000) ++ u4 (n % 0x1_0000_0000)) × (n < 2 ^ 64) × (i + 1 < count)
 unfolding eight
 eight_spelled i count n bytes h =
     let b = h.second in
@@ -83,30 +87,30 @@ double_tagged i count xs bytes h =
     let g = eight_spelled i count h.value h.front h.first in
     eight_made 6 h.value (entry.Double h.value) xs bytes h.second.is (end h (u4 (h.value / 0x1_0000_0000) ++ u4 (h.value % 0x1_0000_0000)) g.0 h.second.none) refl
 
-at_tag : (k tag : ℕ) (xs : List Entry) (bytes : List ℕ) → eqb tag k ≡ true → k ∷ [] ++ bytes ≡ flat_map entry_bytes xs → tag ∷ [] ++ bytes ≡ flat_map entry_bytes xs
-at_tag k tag xs bytes e h = ap (λ (t : ℕ). t ∷ [] ++ bytes) (eqb-true tag k e) ∙ h
+at_tag : (t : Tag) (byte : ℕ) (xs : List Entry) (bytes : List ℕ) → tag_of byte ≡ Some t → byte_of t ∷ [] ++ bytes ≡ flat_map entry_bytes xs → byte ∷ [] ++ bytes ≡ flat_map entry_bytes xs
+at_tag t byte xs bytes e h = ap (λ (k : ℕ). k ∷ [] ++ bytes) (sym (tag_only byte t e)) ∙ h
 
-tag_by : (i count tag : ℕ) (xs : List Entry) (bytes : List ℕ) → (entry_of i count tag).Spells xs bytes → tag ∷ [] ++ bytes ≡ flat_map entry_bytes xs
-unfolding entry_of
-tag_by i count tag xs bytes (yes e s) = at_tag 1 tag xs bytes e (utf8_tagged i xs bytes s)
-tag_by i count tag xs bytes (no _ (yes e s)) = at_tag 3 tag xs bytes e (four_tagged 3 entry.Integer (λ n. refl) xs bytes s)
-tag_by i count tag xs bytes (no _ (no _ (yes e s))) = at_tag 4 tag xs bytes e (four_tagged 4 entry.Float (λ n. refl) xs bytes s)
-tag_by i count tag xs bytes (no _ (no _ (no _ (yes e s)))) = at_tag 5 tag xs bytes e (long_tagged i count xs bytes s)
-tag_by i count tag xs bytes (no _ (no _ (no _ (no _ (yes e s))))) = at_tag 6 tag xs bytes e (double_tagged i count xs bytes s)
-tag_by i count tag xs bytes (no _ (no _ (no _ (no _ (no _ (yes e s)))))) = at_tag 7 tag xs bytes e (one_tagged 7 entry.Class (λ n. refl) xs bytes s)
-tag_by i count tag xs bytes (no _ (no _ (no _ (no _ (no _ (no _ (yes e s))))))) = at_tag 8 tag xs bytes e (one_tagged 8 entry.Str (λ n. refl) xs bytes s)
-tag_by i count tag xs bytes (no _ (no _ (no _ (no _ (no _ (no _ (no _ (yes e s)))))))) = at_tag 9 tag xs bytes e (two_tagged 9 entry.Field (λ a b. refl) xs bytes s)
-tag_by i count tag xs bytes (no _ (no _ (no _ (no _ (no _ (no _ (no _ (no _ (yes e s))))))))) = at_tag 10 tag xs bytes e (two_tagged 10 entry.Method (λ a b. refl) xs bytes s)
-tag_by i count tag xs bytes (no _ (no _ (no _ (no _ (no _ (no _ (no _ (no _ (no _ (yes e s)))))))))) = at_tag 11 tag xs bytes e (two_tagged 11 entry.Interface (λ a b. refl) xs bytes s)
-tag_by i count tag xs bytes (no _ (no _ (no _ (no _ (no _ (no _ (no _ (no _ (no _ (no _ (yes e s))))))))))) = at_tag 12 tag xs bytes e (two_tagged 12 entry.NameType (λ a b. refl) xs bytes s)
-tag_by i count tag xs bytes (no _ (no _ (no _ (no _ (no _ (no _ (no _ (no _ (no _ (no _ (no _ s))))))))))) = absurd s
+tag_by : (i count byte : ℕ) (t : Option Tag) (xs : List Entry) (bytes : List ℕ) → tag_of byte ≡ t → (entry_with i count t).Spells xs bytes → byte ∷ [] ++ bytes ≡ flat_map entry_bytes xs
+unfolding entry_with
+tag_by i count byte None xs bytes e h = absurd h
+tag_by i count byte (Some tag.Utf8) xs bytes e h = at_tag tag.Utf8 byte xs bytes e (utf8_tagged i xs bytes h)
+tag_by i count byte (Some tag.Integer) xs bytes e h = at_tag tag.Integer byte xs bytes e (four_tagged 3 entry.Integer (λ n. refl) xs bytes h)
+tag_by i count byte (Some tag.Float) xs bytes e h = at_tag tag.Float byte xs bytes e (four_tagged 4 entry.Float (λ n. refl) xs bytes h)
+tag_by i count byte (Some tag.Long) xs bytes e h = at_tag tag.Long byte xs bytes e (long_tagged i count xs bytes h)
+tag_by i count byte (Some tag.Double) xs bytes e h = at_tag tag.Double byte xs bytes e (double_tagged i count xs bytes h)
+tag_by i count byte (Some tag.Class) xs bytes e h = at_tag tag.Class byte xs bytes e (one_tagged 7 entry.Class (λ n. refl) xs bytes h)
+tag_by i count byte (Some tag.Str) xs bytes e h = at_tag tag.Str byte xs bytes e (one_tagged 8 entry.Str (λ n. refl) xs bytes h)
+tag_by i count byte (Some tag.Field) xs bytes e h = at_tag tag.Field byte xs bytes e (two_tagged 9 entry.Field (λ a b. refl) xs bytes h)
+tag_by i count byte (Some tag.Method) xs bytes e h = at_tag tag.Method byte xs bytes e (two_tagged 10 entry.Method (λ a b. refl) xs bytes h)
+tag_by i count byte (Some tag.Interface) xs bytes e h = at_tag tag.Interface byte xs bytes e (two_tagged 11 entry.Interface (λ a b. refl) xs bytes h)
+tag_by i count byte (Some tag.NameType) xs bytes e h = at_tag tag.NameType byte xs bytes e (two_tagged 12 entry.NameType (λ a b. refl) xs bytes h)
 
 n8 : (n : ℕ) (bytes : List ℕ) → SpellsNumber w8 n bytes → bytes ≡ n ∷ []
 n8 n bytes s = let k : n % 256 ≡ n = omega (arith, s.fits) in s.bytes_are ∙ ap (λ (b : ℕ). b ∷ []) k
 
 entry_spelled : (i count : ℕ) (xs : List Entry) (bytes : List ℕ) → (entry_from i count).Spells xs bytes → bytes ≡ flat_map entry_bytes xs
 unfolding entry_from
-entry_spelled i count xs bytes h = join h (h.value ∷ []) h.back (n8 h.value h.front h.first) refl ∙ tag_by i count h.value xs h.back h.second
+entry_spelled i count xs bytes h = join h (h.value ∷ []) h.back (n8 h.value h.front h.first) refl ∙ tag_by i count h.value (tag_of h.value) xs h.back refl h.second
 
 -- a turn over the entries, and how many there are behind it
 next_spelled : (count : ℕ) (found xs : List Entry) (bytes : List ℕ) → (next_entry count found).Spells xs bytes → bytes ≡ flat_map entry_bytes xs
@@ -148,24 +152,24 @@ two_len : (i count : ℕ) (made : ℕ → ℕ → Entry) (xs : List Entry) (byte
 unfolding two
 two_len i count made xs bytes lt h = one_of i count (made h.value.0 h.value.1) xs lt h.second.is
 
-tag_len : (i count tag : ℕ) (xs : List Entry) (bytes : List ℕ) → i < count → (entry_of i count tag).Spells xs bytes → Some_of i count xs
-unfolding entry_of
-tag_len i count tag xs bytes lt (yes e s) = utf8_len i count xs bytes lt s
-tag_len i count tag xs bytes lt (no _ (yes e s)) = four_len i count _ xs bytes lt s
-tag_len i count tag xs bytes lt (no _ (no _ (yes e s))) = four_len i count _ xs bytes lt s
-tag_len i count tag xs bytes lt (no _ (no _ (no _ (yes e s)))) = long_len i count xs bytes s
-tag_len i count tag xs bytes lt (no _ (no _ (no _ (no _ (yes e s))))) = double_len i count xs bytes s
-tag_len i count tag xs bytes lt (no _ (no _ (no _ (no _ (no _ (yes e s)))))) = one_len i count _ xs bytes lt s
-tag_len i count tag xs bytes lt (no _ (no _ (no _ (no _ (no _ (no _ (yes e s))))))) = one_len i count _ xs bytes lt s
-tag_len i count tag xs bytes lt (no _ (no _ (no _ (no _ (no _ (no _ (no _ (yes e s)))))))) = two_len i count _ xs bytes lt s
-tag_len i count tag xs bytes lt (no _ (no _ (no _ (no _ (no _ (no _ (no _ (no _ (yes e s))))))))) = two_len i count _ xs bytes lt s
-tag_len i count tag xs bytes lt (no _ (no _ (no _ (no _ (no _ (no _ (no _ (no _ (no _ (yes e s)))))))))) = two_len i count _ xs bytes lt s
-tag_len i count tag xs bytes lt (no _ (no _ (no _ (no _ (no _ (no _ (no _ (no _ (no _ (no _ (yes e s))))))))))) = two_len i count _ xs bytes lt s
-tag_len i count tag xs bytes lt (no _ (no _ (no _ (no _ (no _ (no _ (no _ (no _ (no _ (no _ (no _ s))))))))))) = absurd s
+tag_len : (i count : ℕ) (t : Option Tag) (xs : List Entry) (bytes : List ℕ) → i < count → (entry_with i count t).Spells xs bytes → Some_of i count xs
+unfolding entry_with
+tag_len i count None xs bytes lt h = absurd h
+tag_len i count (Some tag.Utf8) xs bytes lt h = utf8_len i count xs bytes lt h
+tag_len i count (Some tag.Integer) xs bytes lt h = four_len i count _ xs bytes lt h
+tag_len i count (Some tag.Float) xs bytes lt h = four_len i count _ xs bytes lt h
+tag_len i count (Some tag.Long) xs bytes lt h = long_len i count xs bytes h
+tag_len i count (Some tag.Double) xs bytes lt h = double_len i count xs bytes h
+tag_len i count (Some tag.Class) xs bytes lt h = one_len i count _ xs bytes lt h
+tag_len i count (Some tag.Str) xs bytes lt h = one_len i count _ xs bytes lt h
+tag_len i count (Some tag.Field) xs bytes lt h = two_len i count _ xs bytes lt h
+tag_len i count (Some tag.Method) xs bytes lt h = two_len i count _ xs bytes lt h
+tag_len i count (Some tag.Interface) xs bytes lt h = two_len i count _ xs bytes lt h
+tag_len i count (Some tag.NameType) xs bytes lt h = two_len i count _ xs bytes lt h
 
 entry_len : (i count : ℕ) (xs : List Entry) (bytes : List ℕ) → i < count → (entry_from i count).Spells xs bytes → Some_of i count xs
 unfolding entry_from
-entry_len i count xs bytes lt h = tag_len i count h.value xs h.back lt h.second
+entry_len i count xs bytes lt h = tag_len i count (tag_of h.value) xs h.back lt h.second
 
 -- a turn goes on towards the count, and stays there
 abbrev Nearer : ℕ → ℕ → ℕ → Type 0
@@ -182,7 +186,7 @@ next_len count found xs bytes le (no e s) =
     let n : length xs ≡ 0 = rw s.is refl in
     (omega (arith, n, le), omega (arith, n, ge))
 
-entries_law : (count n : ℕ) (found ys : List Entry) (bytes : List ℕ) → length found + 1 ≤ count → count ≤ length found + 1 + n → (many n found (next_entry count)).Spells ys bytes
+pub entries_law : (count n : ℕ) (found ys : List Entry) (bytes : List ℕ) → length found + 1 ≤ count → count ≤ length found + 1 + n → (many n found (next_entry count)).Spells ys bytes
     → (xs : List Entry) × (ys ≡ found ++ xs) × (bytes ≡ flat_map entry_bytes xs) × (length ys + 1 ≡ count)
 unfolding many
 entries_law count zero found ys bytes le ge h = let n : length ys ≡ length found = ap length h.is in ([], h.is ∙ sym (append-nil found), h.none, omega (arith, n, le, ge))
@@ -193,7 +197,7 @@ entries_law count (suc n) found ys bytes le ge h =
     let others = entries_law count n (found ++ h.value) ys h.back (omega (arith, near, len)) (omega (arith, near, len, ge, le)) h.second in
     (h.value ++ others.0, others.1 ∙ append_assoc found h.value others.0, glue entry_bytes bytes h.front h.back h.value others.0 h.parts first others.2, others.3)
 
-not_zero : (n : ℕ) → not (eqb n 0) ≡ true → 1 ≤ n
+pub not_zero : (n : ℕ) → not (eqb n 0) ≡ true → 1 ≤ n
 not_zero zero e = absurd cc
 not_zero (suc n) e = omega arith
 

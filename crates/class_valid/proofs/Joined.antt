@@ -5,7 +5,7 @@ use Rattle.std.specs.List.{flat_map}
 use Rattle.std.proofs.lemmas.List.{append-nil}
 use Rattle.std.proofs.lemmas.Grind.{flat_map-append}
 use Rattle.class_grammar.specs.Layout.{Layout, SpellsNumber, Both, Turned, number, ◌>>=◌, many}
-use Rattle.class_writer.specs.Bytes.{u2, u4}
+use Rattle.class_grammar.specs.Bytes.{u2, u4}
 
 pub n16 : (n : ℕ) (bytes : List ℕ) → SpellsNumber w16 n bytes → bytes ≡ u2 n
 n16 n bytes s = let k : n ≡ n % 65536 = omega (arith, s.fits) in s.bytes_are ∙ ap (to_be_bytes w16) k

@@ -7,19 +7,20 @@ use Rattle.class_pool.specs.declared.class.Attribute.{Attribute, fold-roll-Attri
 use Rattle.class_pool.specs.declared.class.Attribute.TheVariants as attribute
 use Rattle.class_pool.specs.declared.class.Attribute.TheVariants.{rolls-Raw, rolls-Coded}
 use Rattle.class_pool.specs.declared.class.Attribute.TheOpen.{Attribute-F, Code-F}
+use Rattle.class_pool.specs.declared.class.CatchRow.{CatchRow}
 use Rattle.class_pool.specs.declared.class.Code.{Code, roll-Code, out-roll-Code}
 use Rattle.class_pool.specs.declared.fault.ClassFault.{ClassFault}
 use Rattle.class_grammar.specs.Layout.{SpellsNumber, Chosen, yes, no, number, run, refused}
 use Rattle.class_grammar.specs.Grammar.{row, raw, raws, code, coded, plain, attribute_of, attributes, long, is_coded}
-use Rattle.class_writer.proofs.Codes.{code_is, fields_bytes}
-use Rattle.class_writer.specs.Bytes.{u2, u4, counted, row_bytes, attribute_step, code_step, attribute_bytes, code_bytes, attributes_bytes}
-use Rattle.class_writer.proofs.Joined.{n16, n32, join, end, single, Ones, many_ones, count_then, t16, t32}
+use Rattle.class_valid.proofs.Codes.{code_is, fields_bytes}
+use Rattle.class_grammar.specs.Bytes.{u2, u4, counted, row_bytes, attribute_step, code_step, attribute_bytes, code_bytes, attributes_bytes}
+use Rattle.class_valid.proofs.Joined.{n16, n32, join, end, single, Ones, many_ones, count_then, t16, t32}
 
 row_ones : Ones row_bytes row
 unfolding row
 row_ones xs bytes h =
     let b = h.second in let c = b.second in let d = c.second in
-    single row_bytes (h.value, b.value, c.value, d.value) xs bytes d.second.is
+    single row_bytes (record { start = h.value; end = b.value; handler = c.value; caught = d.value }) xs bytes d.second.is
     (join h (u2 h.value) (u2 b.value ++ (u2 c.value ++ u2 d.value)) (n16 _ _ h.first) (join b (u2 b.value) (u2 c.value ++ u2 d.value) (n16 _ _ b.first) (join c (u2 c.value) (u2 d.value) (n16 _ _ c.first) (end d (u2 d.value) (n16 _ _ d.first) d.second.none))))
 
 raw_bytes : (name : ℕ) (bytes : List ℕ) → attribute_bytes (attribute.Raw name bytes) ≡ u2 name ++ counted bytes
@@ -48,13 +49,13 @@ pub raws_spelled : (es : List Entry) (ys : List Attribute) (bytes : List ℕ) �
 unfolding raws
 raws_spelled es ys bytes h = count_then attribute_bytes (λ found. raw es) (λ found. raw_ones es) ys bytes h
 
-made_code : (s l : ℕ) (b : List ℕ) (rows : List (ℕ × ℕ × ℕ × ℕ)) (others : List Attribute) (c : Code) → c ≡ roll-Code (record { max_stack = s; max_locals = l; code = b; catches = rows; attributes = others })
+made_code : (s l : ℕ) (b : List ℕ) (rows : List CatchRow) (others : List Attribute) (c : Code) → c ≡ roll-Code (record { max_stack = s; max_locals = l; code = b; catches = rows; attributes = others })
     → code_bytes c ≡ u2 s ++ (u2 l ++ (counted b ++ ((u2 (length rows) ++ flat_map row_bytes rows) ++ attributes_bytes others)))
 made_code s l b rows others c e =
     let made : Code-F Attribute Code = record { max_stack = s; max_locals = l; code = b; catches = rows; attributes = others } in
     ap code_bytes e ∙ code_is (roll-Code made) ∙ ap fields_bytes (out-roll-Code made)
 
-code_spelled : (es : List Entry) (c : Code) (bytes : List ℕ) → (code es).Spells c bytes → bytes ≡ code_bytes c
+pub code_spelled : (es : List Entry) (c : Code) (bytes : List ℕ) → (code es).Spells c bytes → bytes ≡ code_bytes c
 unfolding code
 code_spelled es c bytes h =
     let b = h.second in let d = b.second in let e = d.second in let f = e.second in let g = f.second in let k = g.second in

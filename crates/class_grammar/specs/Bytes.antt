@@ -8,8 +8,11 @@ use Rattle.class_pool.specs.declared.entry.Entry.TheVariants as entry
 use Rattle.class_pool.specs.declared.class.Attribute.{Attribute, fold-Attribute}
 use Rattle.class_pool.specs.declared.class.Attribute.TheOpen.{Attribute-F, Code-F}
 use Rattle.class_pool.specs.declared.class.Code.{Code, fold-Code}
+use Rattle.class_pool.specs.declared.class.CatchRow.{CatchRow}
 use Rattle.class_pool.specs.declared.class.Member.{Member}
 use Rattle.class_pool.specs.declared.class.Class.{Class}
+use Rattle.class_pool.specs.declared.tag.Tag.TheVariants as tag
+use Rattle.class_pool.specs.Tags.{byte_of}
 
 abbrev pub u2 : ℕ → List ℕ
 u2 n = to_be_bytes w16 (n % 65536)
@@ -22,24 +25,24 @@ counted bytes = u4 (length bytes) ++ bytes
 
 -- the entry's tag, and what follows it; a gap has no bytes
 abbrev pub entry_bytes : Entry → List ℕ
-entry_bytes (entry.Utf8 t) = 1 ∷ [] ++ (u2 (length (modified t)) ++ modified t)
-entry_bytes (entry.Integer n) = 3 ∷ [] ++ u4 n
-entry_bytes (entry.Float n) = 4 ∷ [] ++ u4 n
-entry_bytes (entry.Long n) = 5 ∷ [] ++ (u4 (cast_unsigned w64 n / 0x1_0000_0000) ++ u4 (cast_unsigned w64 n % 0x1_0000_0000))
-entry_bytes (entry.Double n) = 6 ∷ [] ++ (u4 (n / 0x1_0000_0000) ++ u4 (n % 0x1_0000_0000))
-entry_bytes (entry.Class n) = 7 ∷ [] ++ u2 n
-entry_bytes (entry.Str n) = 8 ∷ [] ++ u2 n
-entry_bytes (entry.Field a b) = 9 ∷ [] ++ (u2 a ++ u2 b)
-entry_bytes (entry.Method a b) = 10 ∷ [] ++ (u2 a ++ u2 b)
-entry_bytes (entry.Interface a b) = 11 ∷ [] ++ (u2 a ++ u2 b)
-entry_bytes (entry.NameType a b) = 12 ∷ [] ++ (u2 a ++ u2 b)
+entry_bytes (entry.Utf8 t) = byte_of tag.Utf8 ∷ [] ++ (u2 (length (modified t)) ++ modified t)
+entry_bytes (entry.Integer n) = byte_of tag.Integer ∷ [] ++ u4 n
+entry_bytes (entry.Float n) = byte_of tag.Float ∷ [] ++ u4 n
+entry_bytes (entry.Long n) = byte_of tag.Long ∷ [] ++ (u4 (cast_unsigned w64 n / 0x1_0000_0000) ++ u4 (cast_unsigned w64 n % 0x1_0000_0000))
+entry_bytes (entry.Double n) = byte_of tag.Double ∷ [] ++ (u4 (n / 0x1_0000_0000) ++ u4 (n % 0x1_0000_0000))
+entry_bytes (entry.Class n) = byte_of tag.Class ∷ [] ++ u2 n
+entry_bytes (entry.Str n) = byte_of tag.Str ∷ [] ++ u2 n
+entry_bytes (entry.Field a b) = byte_of tag.Field ∷ [] ++ (u2 a ++ u2 b)
+entry_bytes (entry.Method a b) = byte_of tag.Method ∷ [] ++ (u2 a ++ u2 b)
+entry_bytes (entry.Interface a b) = byte_of tag.Interface ∷ [] ++ (u2 a ++ u2 b)
+entry_bytes (entry.NameType a b) = byte_of tag.NameType ∷ [] ++ (u2 a ++ u2 b)
 entry_bytes entry.Gap = []
 
 abbrev pub pool_bytes : List Entry → List ℕ
 pool_bytes es = u2 (length es + 1) ++ flat_map entry_bytes es
 
-abbrev pub row_bytes : ℕ × ℕ × ℕ × ℕ → List ℕ
-row_bytes r = u2 r.0 ++ (u2 r.1 ++ (u2 r.2 ++ u2 r.3))
+abbrev pub row_bytes : CatchRow → List ℕ
+row_bytes r = u2 r.start ++ (u2 r.end ++ (u2 r.handler ++ u2 r.caught))
 
 abbrev pub attribute_step : Attribute-F (List ℕ) (List ℕ) → List ℕ
 attribute_step (Attribute-F.Raw name bytes) = u2 name ++ counted bytes
@@ -58,7 +61,7 @@ abbrev pub attributes_bytes : List Attribute → List ℕ
 attributes_bytes parts = u2 (length parts) ++ flat_map attribute_bytes parts
 
 abbrev pub member_bytes : Member → List ℕ
-member_bytes m = u2 m.flags ++ (u2 m.name ++ (u2 m.descriptor ++ attributes_bytes m.attributes))
+member_bytes m = u2 m.flags.bits ++ (u2 m.name ++ (u2 m.descriptor ++ attributes_bytes m.attributes))
 
 abbrev pub members_bytes : List Member → List ℕ
 members_bytes ms = u2 (length ms) ++ flat_map member_bytes ms
@@ -67,4 +70,4 @@ abbrev pub interfaces_bytes : List ℕ → List ℕ
 interfaces_bytes ns = u2 (length ns) ++ flat_map u2 ns
 
 abbrev pub class_bytes : Class → List ℕ
-class_bytes c = u4 0xcafe_babe ++ (u2 0 ++ (u2 c.major ++ (pool_bytes c.pool ++ (u2 c.flags ++ (u2 c.this ++ (u2 c.parent ++ (interfaces_bytes c.interfaces ++ (members_bytes c.fields ++ (members_bytes c.methods ++ attributes_bytes c.attributes)))))))))
+class_bytes c = u4 0xcafe_babe ++ (u2 0 ++ (u2 c.major ++ (pool_bytes c.pool ++ (u2 c.flags.bits ++ (u2 c.this ++ (u2 c.parent ++ (interfaces_bytes c.interfaces ++ (members_bytes c.fields ++ (members_bytes c.methods ++ attributes_bytes c.attributes)))))))))
