@@ -17,6 +17,8 @@ ESCAPE = re.compile(r'\\(?:(["\\nt])|u\{([0-9A-Fa-f]{1,6})\})')
 OPENING = ("(", "[", "{", "!", "len")
 DEEPEST = 64
 METHOD_WORDS = ("print", "return", "add", "static", "self")
+METHOD_STATEMENTS = ("let", "for", "if", "fail", *METHOD_WORDS)
+STEP_STATEMENTS = ("let", "for", "if", "fail", "produce", "call")
 STEP_WORDS = ("produce", "call", "get", "all")
 
 
@@ -141,8 +143,9 @@ class BodyReader:
 
     def is_next(self, *texts):
         """Whether one of these signs or keywords comes next; they are remembered as what may stand here."""
-        self.expected += [f"`{it}`" for it in texts]
-        return self.next().kind in ("sign", "keyword") and self.next().text in texts
+        self.expected.append(texts)
+        token = self.next()
+        return token.text in texts and token.kind in ("sign", "keyword")
 
     def is_kind(self, kind, shown):
         self.expected.append(shown)
@@ -160,7 +163,8 @@ class BodyReader:
     def stop(self, word=None):
         self.reading.stuck = self.at
         self.reading.word = word or ("wrong token" if self.next().kind == "wrong" else "syntax")
-        self.reading.expected = list(dict.fromkeys(self.expected))
+        shown = [text for it in self.expected for text in ([it] if isinstance(it, str) else [f"`{text}`" for text in it])]
+        self.reading.expected = list(dict.fromkeys(shown))
         raise Stuck
 
     def need(self, text):
@@ -196,9 +200,7 @@ class BodyReader:
         del self.scope[kept:]
 
     def statement(self):
-        words = ["let", "for", "if", "fail"]
-        words += ["print", "return", "add", "static", "self"] if self.is_method else ["produce", "call"]
-        if self.is_next(*words):
+        if self.is_next(*(METHOD_STATEMENTS if self.is_method else STEP_STATEMENTS)):
             word = self.next().text
             if word == "call":
                 return self.call_statement()

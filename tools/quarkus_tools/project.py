@@ -5,6 +5,7 @@ program refuses can be spoken of too; what is wrong with a file is the program's
 
 import re
 from dataclasses import dataclass, field
+from functools import cached_property
 
 from . import toml_tree
 from .body import read_body
@@ -117,17 +118,28 @@ class Project:
         Filler(project).fill()
         return project
 
+    @cached_property
+    def declared(self):
+        """What is declared, by its kind and name; the first of several."""
+        found = {}
+        for kind in ("items", "beans", "recorders"):
+            for it in getattr(self, kind):
+                found.setdefault((kind, it.name), it)
+        for step in self.steps:
+            found.setdefault(("steps", step.full_name), step)
+        return found
+
     def item(self, name):
-        return next((it for it in self.items if it.name == name), None)
+        return self.declared.get(("items", name))
 
     def bean(self, name):
-        return next((it for it in self.beans if it.name == name), None)
+        return self.declared.get(("beans", name))
 
     def recorder(self, name):
-        return next((it for it in self.recorders if it.name == name), None)
+        return self.declared.get(("recorders", name))
 
     def step(self, full_name):
-        return next((it for it in self.steps if it.full_name == full_name), None)
+        return self.declared.get(("steps", full_name))
 
     def methods(self):
         return [method for recorder in self.recorders for method in recorder.methods]

@@ -1,7 +1,10 @@
 """A file's text with its lines, and how a place in it is shown."""
 
+import re
 import unicodedata
+from bisect import bisect_right
 from dataclasses import dataclass
+from functools import cached_property
 
 
 @dataclass
@@ -11,16 +14,23 @@ class Source:
     name: str
     text: str
 
+    @cached_property
+    def starts(self):
+        """Where each line begins."""
+        return [0, *(it.end() for it in re.finditer("\n", self.text))]
+
     def line_and_column(self, offset):
         """Line and column of a character, both from 1."""
         offset = max(0, min(offset, len(self.text)))
-        line = self.text.count("\n", 0, offset) + 1
-        return line, offset - (self.text.rfind("\n", 0, offset) + 1) + 1
+        line = bisect_right(self.starts, offset)
+        return line, offset - self.starts[line - 1] + 1
 
     def line(self, number):
         """The text of a line, without its end."""
-        lines = self.text.split("\n")
-        return lines[number - 1].rstrip("\r") if 0 < number <= len(lines) else ""
+        if not 0 < number <= len(self.starts):
+            return ""
+        end = self.starts[number] - 1 if number < len(self.starts) else len(self.text)
+        return self.text[self.starts[number - 1] : end].rstrip("\r")
 
     def place(self, offset):
         """Where a character stands, as `app.toml:3:14`."""

@@ -12,6 +12,7 @@ BASED = re.compile(r"0x[0-9A-Fa-f](?:_?[0-9A-Fa-f])*$|0o[0-7](?:_?[0-7])*$|0b[01
 FLOAT = re.compile(r"[+-]?(?:inf|nan|(?:0|[1-9](?:_?[0-9])*)(?:\.[0-9](?:_?[0-9])*)?(?:[eE][+-]?[0-9](?:_?[0-9])*)?)$")
 DATE = re.compile(r"\d{4}-\d\d-\d\d(?:[Tt ]\d\d:\d\d(?::\d\d(?:\.\d+)?)?(?:[Zz]|[+-]\d\d:\d\d)?)?$|\d\d:\d\d(?::\d\d(?:\.\d+)?)?$")
 PLAIN = re.compile(r"[^\s,\]}#=]+")
+RUN = re.compile(r"[^\x00-\x1f\x7f\\\"']*")
 SPACE = re.compile(r"[ \t]*")
 ESCAPES = {"b": "\b", "t": "\t", "n": "\n", "f": "\f", "r": "\r", "e": "\x1b", '"': '"', "\\": "\\"}
 DIGITS = {"x": 2, "u": 4, "U": 8}
@@ -308,6 +309,7 @@ class Reader:
         self.at += 1
         characters, places = [], []
         while True:
+            self.plain_characters(characters, places)
             here = self.peek()
             if not here or here in "\r\n":
                 self.fail(f"the text that begins with {quote} isn't closed on its line", start)
@@ -320,6 +322,7 @@ class Reader:
     def long_string(self, quote, start):
         characters, places = [], []
         while True:
+            self.plain_characters(characters, places)
             here = self.peek()
             if not here:
                 self.fail(f"the text that begins with {quote * 3} isn't closed", start)
@@ -343,6 +346,13 @@ class Reader:
                 self.at = re.compile(r"\\[ \t\r\n]*").match(self.text, self.at).end()
             else:
                 self.character(quote, characters, places)
+
+    def plain_characters(self, characters, places):
+        """The characters of a text up to the next that may mean something."""
+        run = RUN.match(self.text, self.at)
+        characters += run.group()
+        places += range(self.at, run.end())
+        self.at = run.end()
 
     def character(self, quote, characters, places):
         """One character of a text, with an escape where the quotes allow it."""
