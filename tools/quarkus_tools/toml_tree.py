@@ -16,6 +16,7 @@ RUN = re.compile(r"[^\x00-\x1f\x7f\\\"']*")
 SPACE = re.compile(r"[ \t]*")
 ESCAPES = {"b": "\b", "t": "\t", "n": "\n", "f": "\f", "r": "\r", "e": "\x1b", '"': '"', "\\": "\\"}
 DIGITS = {"x": 2, "u": 4, "U": 8}
+# How many lists and tables may lie in one another, and how many parts a key may have.
 DEEPEST = 80
 
 
@@ -194,6 +195,8 @@ class Reader:
             self.space()
             if self.peek() != ".":
                 return found
+            if len(found) == DEEPEST:
+                self.fail(f"a key has at most {DEEPEST} parts")
             self.at += 1
 
     def pair(self, table, depth=0):
@@ -218,9 +221,9 @@ class Reader:
         table.end = max(table.end, node.end)
 
     def value(self, depth):
-        if depth > DEEPEST:
-            self.fail("values are nested too deep")
         first = self.peek()
+        if depth >= DEEPEST and first and first in "[{":
+            self.fail(f"lists and tables lie at most {DEEPEST} deep in one another")
         if first in ('"', "'") and first:
             return self.string()
         if first == "[":

@@ -9,7 +9,7 @@ import shutil
 import sys
 import tempfile
 
-from . import explain, graph, history_tool, lint, verify_editors, verify_pages, verify_wrapper, watch, why
+from . import explain, graph, history_tool, lint, verify_editors, verify_pages, verify_toml, verify_wrapper, watch, why
 from .program import run
 from .project import load
 
@@ -105,6 +105,13 @@ def verify_explain(compare, room):
         with folder(os.path.join(TOOLS, "mistakes", command)):
             found = printed(explain.main, [file, "--", command, *out])
         compare.text(f"tools/mistakes/{path[:-5]}.txt", found)
+
+
+def verify_reader(compare, room):
+    """The reader of the tools and the program take the same texts for TOML."""
+    for text, wanted, by_program, by_reader in verify_toml.answers(room):
+        both = f"{by_program} by the program, {by_reader} by the reader"
+        compare.holds(f"{text[:40]!r} is TOML: {both}", by_program == by_reader == wanted)
 
 
 # What the program may print before tools/explain reads it, and for which file.
@@ -273,6 +280,7 @@ def verify_page_tables(compare, room):
 
 
 CHECKS = [
+    verify_reader,
     verify_explain,
     verify_piped,
     verify_why,
