@@ -9,7 +9,7 @@ import shutil
 import sys
 import tempfile
 
-from . import explain, graph, history_tool, lint, verify_editors, verify_pages, verify_toml, verify_wrapper, watch, why
+from . import explain, graph, history_tool, lint, verify_editors, verify_pages, verify_rules, verify_toml, verify_wrapper, watch, why
 from .program import run
 from .project import load
 
@@ -213,6 +213,15 @@ def mistaken():
                 yield f"{command}/{file}"
 
 
+def verify_retelling(compare, room):
+    """Bodies and chains are to the tools what they are to the program."""
+    refused = [f"refused_projects/{it}" for it in sorted(os.listdir(os.path.join(EXAMPLES, "refused_projects"))) if it.endswith(".toml")]
+    paths = [os.path.join(EXAMPLES, it) for it in [*project_files(), *refused]]
+    for path in paths + [os.path.join(TOOLS, "mistakes", it) for it in mistaken()]:
+        wrong = verify_rules.differences(path)
+        compare.holds(f"of {os.path.relpath(path, TOP)} the tools say otherwise: {wrong}", not wrong)
+
+
 def verify_vscode(compare, room):
     """The editors' files fit each other, the language and what the tools print."""
     for path in verify_editors.named_files():
@@ -288,6 +297,7 @@ CHECKS = [
     verify_graph,
     verify_history,
     verify_schema,
+    verify_retelling,
     verify_vscode,
     verify_script,
     verify_watch,
