@@ -13,9 +13,8 @@ import sys
 
 from . import explain_chain, explain_failure, explain_project, history
 from .program import UNPROVED, program, run
-from .project import load
+from .project import Unreadable, load
 from .source import Source
-from .toml_tree import TomlFault
 from .words import did_you_mean
 
 USAGE = """usage: quarkus plan FILE 2>&1 | tools/explain FILE
@@ -37,9 +36,9 @@ CLASS_FAULTS = {
 def main(words, stdin=None, stdout=None):
     """Explains; gives the status to end with."""
     stdout = stdout or sys.stdout
-    if not words or words[0] in ("-h", "--help") or words[1:2] not in ([], ["--"]):
+    if not words or words[1:2] not in ([], ["--"]) or words[1:] == ["--"]:
         print(USAGE, file=stdout)
-        return 0 if words[:1] in (["-h"], ["--help"]) else 1
+        return 1
     file, command = words[0], words[2:]
     if command:
         status, text = run([command[0], file, *command[1:]])
@@ -75,7 +74,7 @@ def refused(file, lines, fault):
 def chain(file, lines, fault):
     try:
         return explain_chain.explain(load(file), fault)
-    except (OSError, UnicodeDecodeError, TomlFault):
+    except Unreadable:
         return f"{file} can't be read as the project that was planned"
 
 
@@ -86,7 +85,7 @@ def failure(file, lines, fault):
         events = []
     try:
         return explain_failure.explain(load(file), events, fault)
-    except (OSError, UnicodeDecodeError, TomlFault):
+    except Unreadable:
         return f"{file} can't be read as the project that was built"
 
 

@@ -6,15 +6,13 @@ A box is a step, what stands between two boxes is the item that goes from one to
 aren't needed are grey, inactive ones dashed, a failed one is red. With OUT, the folder of a build, a
 number says when a step started. The picture is printed: SVG, or DOT for Graphviz."""
 
-import os
 from dataclasses import dataclass, field
 from html import escape
 
 from . import history, layout
 from .chain import Chain
-from .project import load
+from .project import Unreadable, load
 from .source import width
-from .toml_tree import TomlFault
 
 USAGE = "usage: tools/graph FILE [OUT] [--svg | --dot]"
 COLOURS = {"needed": ("#e8f1fb", "#2a6fb0"), "unneeded": ("#f3f3f3", "#aaaaaa"), "inactive": ("#f3f3f3", "#aaaaaa"), "failed": ("#fbe3e3", "#c62828")}
@@ -36,19 +34,12 @@ def main(words):
         print(USAGE)
         return 1
     try:
-        picture = Picture.of(load(files[0]), read_history(files[1]) if len(files) == 2 else [])
-    except (OSError, UnicodeDecodeError, TomlFault, history.HistoryFault) as fault:
-        print(f"tools/graph: {fault}")
+        picture = Picture.of(load(files[0]), history.load(files[1]) if len(files) == 2 else [])
+    except (Unreadable, history.HistoryFault) as fault:
+        print(fault)
         return 1
     print(dot(picture) if "--dot" in forms else svg(picture), end="")
     return 0
-
-
-def read_history(out):
-    """The events of a build's folder, or of a file."""
-    path = os.path.join(out, "history.txt") if os.path.isdir(out) else out
-    with open(path, encoding="utf-8") as file:
-        return history.read(file.read())
 
 
 @dataclass

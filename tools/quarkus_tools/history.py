@@ -1,5 +1,6 @@
 """Histories, as `build` prints and writes them: lines to events, and values to plain trees."""
 
+import os
 import re
 from dataclasses import dataclass, field
 
@@ -14,7 +15,7 @@ CALL = re.compile(r"  call ([A-Za-z0-9_]+)\.([A-Za-z0-9_]+)\(")
 
 
 class HistoryFault(Exception):
-    """A line that no history has."""
+    """Why something is no history, in words."""
 
 
 @dataclass
@@ -45,6 +46,18 @@ class Call:
 
     def line(self):
         return f"  call {self.recorder}.{self.method}({self.text})" + (f" -> {self.kept}" if self.kept else "")
+
+
+def load(out):
+    """The events of a build's folder, or of a history's file. Raises HistoryFault."""
+    path = os.path.join(out, "history.txt") if os.path.isdir(out) else out
+    try:
+        with open(path, encoding="utf-8") as file:
+            return read(file.read())
+    except OSError as fault:
+        raise HistoryFault(f"{path}: {os.strerror(fault.errno).lower()}") from fault
+    except UnicodeDecodeError as fault:
+        raise HistoryFault(f"{path}: the file is no UTF-8") from fault
 
 
 def read(text):

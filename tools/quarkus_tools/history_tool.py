@@ -11,9 +11,8 @@ import json
 import re
 
 from . import history, history_page
-from .graph import Picture, read_history
-from .project import load
-from .toml_tree import TomlFault
+from .graph import Picture
+from .project import Unreadable, load
 from .words import count
 
 USAGE = "usage: tools/history OUT [--json | --html FILE | OTHER]"
@@ -24,20 +23,21 @@ def main(words):
     """Prints what the words ask for; 0, or 1 where files can't be read or histories differ."""
     try:
         if len(words) == 1:
-            print(table(read_history(words[0])), end="")
+            print(table(history.load(words[0])), end="")
         elif len(words) == 2 and words[1] == "--json":
-            print(json_lines(read_history(words[0])), end="")
+            print(json_lines(history.load(words[0])), end="")
         elif len(words) == 3 and words[1] == "--html":
-            print(history_page.page(Picture.of(load(words[2]), read_history(words[0])), read_history(words[0])), end="")
+            events = history.load(words[0])
+            print(history_page.page(Picture.of(load(words[2]), events), events), end="")
         elif len(words) == 2 and not words[1].startswith("-"):
-            found = difference(read_history(words[0]), read_history(words[1]))
+            found = difference(history.load(words[0]), history.load(words[1]))
             print(found, end="")
             return 0 if not differs(found) else 1
         else:
             print(USAGE)
             return 1
-    except (OSError, UnicodeDecodeError, TomlFault, history.HistoryFault) as fault:
-        print(f"tools/history: {fault}")
+    except (Unreadable, history.HistoryFault) as fault:
+        print(fault)
         return 1
     return 0
 

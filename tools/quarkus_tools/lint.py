@@ -5,8 +5,7 @@
 Each line names a place and what stands there without need; the status is 1 where there is one."""
 
 from .chain import Chain
-from .project import load
-from .toml_tree import TomlFault
+from .project import Unreadable, load
 from .words import both
 
 USAGE = "usage: tools/lint FILE.."
@@ -21,8 +20,8 @@ def main(words):
     for file in words:
         try:
             project = load(file)
-        except (OSError, UnicodeDecodeError, TomlFault) as fault:
-            print(f"{file}: {fault}; tools/explain says more")
+        except Unreadable as fault:
+            print(fault)
             return 1
         found = findings(project)
         for start, message in found:

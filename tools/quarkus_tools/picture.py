@@ -11,8 +11,8 @@ import shutil
 import subprocess
 import tempfile
 
-from . import history_page
-from .graph import Picture, read_history
+from . import history, history_page
+from .graph import Picture
 from .program import TOP
 from .project import load
 
@@ -44,7 +44,7 @@ def main(words):
 def shop_page():
     """The page of the shop's stored build."""
     shop = os.path.join(TOP, "examples", "shop")
-    events = read_history(os.path.join(shop, "build.files", "built"))
+    events = history.load(os.path.join(shop, "build.files", "built"))
     return history_page.page(Picture.of(load(os.path.join(shop, "app.toml")), events), events)
 
 

@@ -3,6 +3,7 @@
 `Project.of` takes whatever it understands of a file and passes over the rest, so that a file which the
 program refuses can be spoken of too; what is wrong with a file is the program's to say."""
 
+import os
 import re
 from dataclasses import dataclass, field
 from functools import cached_property
@@ -264,8 +265,19 @@ def place(node):
     return (name.start, name.end) if name is not None else (node.start, min(node.start + 1, node.end))
 
 
-def load(path, shown=None):
-    """The project of a file. Raises OSError, UnicodeDecodeError or TomlFault."""
-    with open(path, "rb") as file:
-        content = file.read()
-    return Project.of(Source(shown or path, content.decode("utf-8").replace("\r\n", "\n")))
+class Unreadable(Exception):
+    """Why a file can't be read as a project file, in words, with the place."""
+
+
+def load(path):
+    """The project of a file; raises Unreadable."""
+    try:
+        with open(path, "rb") as file:
+            source = Source(path, file.read().decode("utf-8").replace("\r\n", "\n"))
+        return Project.of(source)
+    except OSError as fault:
+        raise Unreadable(f"{path}: {os.strerror(fault.errno).lower()}") from fault
+    except UnicodeDecodeError as fault:
+        raise Unreadable(f"{path}: the file is no UTF-8") from fault
+    except toml_tree.TomlFault as fault:
+        raise Unreadable(f"{source.place(fault.offset)}: {fault.message}") from fault

@@ -6,7 +6,7 @@ import difflib
 import io
 import os
 import shutil
-import sys
+import subprocess
 import tempfile
 
 from . import explain, graph, history_tool, lint, verify_editors, verify_pages, verify_rules, verify_toml, verify_wrapper, watch, why
@@ -249,6 +249,16 @@ def verify_script(compare, room):
     compare.holds("docs/quarkus.1 isn't right", not verify_wrapper.manual_faults())
 
 
+def verify_scripts(compare, room):
+    """Each script of tools/ is there, says what it is for, and refuses words that it has no use for."""
+    found = []
+    for name in ("explain", "why", "lint", "graph", "history", "watch", "picture", "verify"):
+        for words in ([name, "--help"], [name, "--no-such-word", "more", "words", "than", "it", "takes"]):
+            ended = subprocess.run([os.path.join(TOOLS, words[0]), *words[1:]], capture_output=True, text=True)
+            found.append(f"== {' '.join(words[:2])}\n{ended.stdout}{ended.stderr}" + (f"status {ended.returncode}\n" if ended.returncode else ""))
+    compare.text("tools/stored/scripts.txt", "\n".join(found))
+
+
 def verify_watch(compare, room):
     """What tools/watch says of a file that is saved four times: right, changed, wrong, failing."""
     here = os.path.join(room, "watch")
@@ -300,6 +310,7 @@ CHECKS = [
     verify_retelling,
     verify_vscode,
     verify_script,
+    verify_scripts,
     verify_watch,
     verify_page_commands,
     verify_page_tables,
@@ -308,13 +319,13 @@ CHECKS = [
 
 def main(words):
     """Runs all comparisons; 0 where everything is as stored."""
-    compare = Comparison("--store" in words)
+    if words not in ([], ["--store"]):
+        print("usage: tools/verify [--store]")
+        return 1
+    compare = Comparison(bool(words))
     with tempfile.TemporaryDirectory() as room:
         for check in CHECKS:
             check(compare, room)
     print(f"tools: {compare.passed} passed, {compare.failed} failed")
     return 1 if compare.failed else 0
 
-
-if __name__ == "__main__":
-    sys.exit(main(sys.argv[1:]))

@@ -9,7 +9,6 @@ import os
 import time
 
 from . import explain, history
-from .graph import read_history
 from .history_tool import difference
 from .program import run
 
@@ -30,8 +29,8 @@ class Watch:
     def written(self):
         """The events of the history that stands in the folder, or None."""
         try:
-            return read_history(self.out)
-        except (OSError, UnicodeDecodeError, history.HistoryFault):
+            return history.load(self.out)
+        except history.HistoryFault:
             return None
 
     def is_saved(self):
@@ -68,10 +67,7 @@ def main(words):
     if why:
         print(f"{words[0]}: {why}")
         return 1
-    try:
-        while True:
-            if watch.is_saved():
-                print(f"-- {time.strftime('%H:%M:%S')} {words[0]}\n{watch.look()}", flush=True)
-            time.sleep(PAUSE)
-    except KeyboardInterrupt:
-        return 0
+    while True:
+        if watch.is_saved():
+            print(f"-- {time.strftime('%H:%M:%S')} {words[0]}\n{watch.look()}", flush=True)
+        time.sleep(PAUSE)

@@ -4,8 +4,7 @@
     tools/why FILE ITEM"""
 
 from .chain import Chain
-from .project import load
-from .toml_tree import TomlFault
+from .project import Unreadable, load
 from .words import both, did_you_mean
 
 USAGE = "usage: tools/why FILE STEP|ITEM"
@@ -19,8 +18,8 @@ def main(words):
     file, name = words
     try:
         project = load(file)
-    except (OSError, UnicodeDecodeError, TomlFault) as fault:
-        print(f"{file}: {fault}; tools/explain says more")
+    except Unreadable as fault:
+        print(fault)
         return 1
     found = answers(project, name)
     if found:
