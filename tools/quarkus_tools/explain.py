@@ -12,7 +12,7 @@ import shutil
 import sys
 
 from . import explain_chain, explain_failure, explain_project, history
-from .program import UNPROVED, program, run
+from .program import PROGRAM, UNPROVED, run
 from .project import Unreadable, load
 from .source import Source
 from .words import did_you_mean
@@ -125,7 +125,7 @@ def silent(file, command, status):
         return f"{os.path.join(outs[0], 'history.txt')}: {unwritable(outs[0])}"
     if status == 7:
         return "standard output didn't take the text"
-    return f"the program {program()} ended with {status} and said nothing"
+    return f"the program {PROGRAM} ended with {status} and said nothing"
 
 
 def unreadable(file):

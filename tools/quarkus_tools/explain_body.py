@@ -67,6 +67,7 @@ class BodyTeller:
         return f"{token.shown()} may not stand here", [self.syntax_hint(token, before), self.expected()]
 
     def syntax_hint(self, token, before):
+        """What was probably meant where a token may not stand, or an empty text."""
         text = token.text
         if before and before.kind == "number" and token.kind == "number" and not text.startswith("-"):
             return "a number has no leading zero, and 64 bits at most"

@@ -29,6 +29,7 @@ class Teller:
         self.chain = Chain(project)
 
     def two_producers(self, item, first, second):
+        """A simple item with two productions that count."""
         steps = [self.project.step(first), self.project.step(second)]
         lines = [f"{item} is a simple item: one step's production of it counts, and here two do"]
         lines += [self.production(it, item, f"{it.full_name} produces {item}") for it in steps]
@@ -37,6 +38,7 @@ class Teller:
         return "\n".join(lines)
 
     def missing(self, item, consumer):
+        """An item that is wanted, by a step or by the application, and that no needed step produces."""
         declared = self.project.item(item)
         if consumer is None:
             entry = next(it for it in self.project.finals if it.name == item)
@@ -74,6 +76,7 @@ class Teller:
         return self.source.show(entry.start, entry.end, message)
 
     def cycle(self, names):
+        """Steps that wait for one another, each for the one before."""
         steps = [self.project.step(it) for it in names.split(", ")]
         if len(steps) == 1:
             lines = [f"{steps[0].full_name} waits for itself"]

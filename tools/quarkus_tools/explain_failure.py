@@ -49,6 +49,7 @@ class Teller:
         self.reading = step.reading()
 
     def told(self, reason):
+        """The lines about a reason, by its form."""
         name = self.step.full_name
         if reason.startswith('"'):
             return self.said(reason)
@@ -84,6 +85,7 @@ class Teller:
         return [self.show(it, message if i == 0 else "or here") for i, (it, _) in enumerate(exact or fails)]
 
     def at(self, what, number):
+        """A reason that names a token."""
         token = self.reading.tokens[number]
         notes = []
         if what == "value too deep":
@@ -107,6 +109,7 @@ class Teller:
         return [f"  nothing was taken of {both(got)}: `get` of it is null"] if got else []
 
     def item(self, name, what):
+        """A production that its item doesn't allow."""
         places = [self.reading.tokens[it.token] for it in self.reading.uses if it.role == "item" and it.owner == "produce" and it.name == name]
         if what == "twice":
             lines = [self.show(it, f"{name} is a simple item, and is produced here" if i == 0 else "and here") for i, it in enumerate(places)]
@@ -117,6 +120,7 @@ class Teller:
         return lines + [f"  beans with this field: {both(having)}" if having else f"  no bean has a field {key}"]
 
     def proxy(self, number, call):
+        """A runtime value in a static step."""
         other = next((it for it in self.project.steps if it.number == number), None)
         where = f", number {call} of those that {other.full_name} recorded" if other else ""
         calls = [it for it in self.reading.tokens if it.kind == "keyword" and it.text == "call"]

@@ -120,6 +120,7 @@ class ValueReader:
         return here
 
     def value(self):
+        """The value that stands next."""
         proxy = self.match(PROXY)
         if proxy:
             return {"proxy": proxy.group()}

@@ -71,6 +71,8 @@ class Recorder:
 
 @dataclass
 class Step:
+    """A build step; `body` is the node of its text, or None."""
+
     number: int
     extension: str
     name: str

@@ -113,6 +113,7 @@ class Reader:
                 return
 
     def document(self):
+        """The whole text, line by line."""
         if self.peek() == "\ufeff":
             self.at += 1
         table = self.root
@@ -131,6 +132,7 @@ class Reader:
                 self.fail("the line has to end here")
 
     def header(self):
+        """A table's header, in one or two brackets; gives the table that the lines below it fill."""
         start = self.at
         many = self.peek(2) == "[["
         self.at += 2 if many else 1
@@ -258,6 +260,7 @@ class Reader:
         self.fail(f"{word} is no value: a text stands in quotes", start)
 
     def array(self, depth):
+        """A list in brackets."""
         start = self.at
         self.at += 1
         parts = []
@@ -279,6 +282,7 @@ class Reader:
         return Node("array", parts, start, self.at)
 
     def inline_table(self, depth):
+        """A table in braces."""
         start = self.at
         self.at += 1
         table = new_table(start, "inline")
@@ -303,6 +307,7 @@ class Reader:
         return table
 
     def string(self):
+        """A text in one or three quotes of either kind."""
         quote = self.peek()
         start = self.at
         if self.peek(3) == quote * 3:
@@ -323,6 +328,7 @@ class Reader:
             self.character(quote, characters, places)
 
     def long_string(self, quote, start):
+        """The rest of a text behind its three quotes."""
         characters, places = [], []
         while True:
             self.plain_characters(characters, places)
@@ -369,6 +375,7 @@ class Reader:
         places.append(begin)
 
     def escape(self, begin):
+        """The character that an escape means, behind its backslash."""
         letter = self.peek()
         self.at += 1
         if letter in ESCAPES and letter:

@@ -10,7 +10,7 @@ import subprocess
 
 from . import history
 from .body import KEYWORDS, SIGN
-from .program import TOP, program, run
+from .program import PROGRAM, TOP, run
 
 FENCE = re.compile(r"^```(\w+)(?: (\S+))?\n(.*?)^```$", re.MULTILINE | re.DOTALL)
 MARK = "--the-next-command--"
@@ -36,7 +36,7 @@ def prepared(room):
     for name in ("tools", "examples", "docs"):
         os.symlink(os.path.join(TOP, name), os.path.join(room, name))
     for link in ("quarkus", "bin/quarkus"):
-        os.symlink(os.path.abspath(program()), os.path.join(room, link))
+        os.symlink(PROGRAM, os.path.join(room, link))
     return room
 
 
