@@ -1,12 +1,12 @@
 -- Counting down the edges out of one step, one after the other.
-use Rattle.std.proofs.Common.{◌≡◌, ℕ, zero, suc, ◌+◌, ◌<◌, ◌≤◌, ◌≢◌, ◌⊎◌, List, [], ◌∷◌, ◌++◌, length, get_or, drop, sym, refl, ap, subst, ◌∙◌, inl, inr, ⊎_elim, arith}
+use Rattle.std.proofs.Common.{◌≡◌, ℕ, suc, ◌+◌, ◌<◌, ◌≤◌, ◌≢◌, ◌⊎◌, List, [], ◌∷◌, ◌++◌, length, get_or, drop, sym, refl, ap, subst, ◌∙◌, inl, inr, ⊎_elim, arith}
 use Rattle.std.proofs.lemmas.List.{append-nil, append_assoc, drop_all}
 use lib.Seq.{drop-cons}
 use mathlib.Core.Logic.{dite}
 use native.Mathlib.Decide.{ℕ_discrete}
 use Rattle.dep_board.specs.declared.view.SeatView.{SeatView}
 use Rattle.dep_board.specs.Counts.{one_at, times, last_of, IsPart}
-use Rattle.dep_board.specs.Edges.{producers, dependents, edges_of}
+use Rattle.dep_board.specs.Edges.{producers, edges_of}
 use Rattle.dep_board.specs.Rule.{with_down, ended_in, down_in}
 use Rattle.dep_board.proofs.EdgeLemmas.{row_times}
 use Rattle.dep_board.proofs.Listed.{times-append, one-same, one-other, producers-snoc_same, producers-snoc_other}

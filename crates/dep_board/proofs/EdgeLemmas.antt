@@ -1,5 +1,5 @@
 -- The edges of rows: what leads out of a step is its row.
-use Rattle.std.proofs.Common.{◌≡◌, ℕ, zero, suc, ◌+◌, ◌<◌, ◌≤◌, ◌≢◌, ◌^◌, ◌↔◌, Bool, true, false, cond, eqb, List, [], ◌∷◌, ◌++◌, length, get_or, Contains, sym, refl, ap, subst, ◌∙◌, arith, eq-eqb, ne_eqb}
+use Rattle.std.proofs.Common.{◌≡◌, ℕ, zero, suc, ◌+◌, ◌<◌, ◌≤◌, ◌≢◌, ◌↔◌, Bool, true, false, cond, eqb, List, [], ◌∷◌, ◌++◌, length, get_or, Contains, sym, refl, ap, subst, ◌∙◌, arith, eq-eqb, ne_eqb}
 use Rattle.std.specs.List.{All}
 use Rattle.std.specs.List.Sorted.{IsStrictlyIncreasing}
 use Rattle.std.proofs.lemmas.List.{append_assoc, append-nil, length-append, get_or_default}
@@ -49,7 +49,7 @@ dependents-before p q [] lt = refl
 dependents-before p q (row ∷ rows) lt = dependents-append p (row_edges q row) (edges_from (suc q) rows)
     ∙ (ap (λ (r : List ℕ). r ++ dependents p (edges_from (suc q) rows)) (dependents-other p q row (λ e. omega (arith, lt, e))) ∙ dependents-before p (suc q) rows (omega (arith, lt)))
 
-dependents-after : (p q : ℕ) (rows : List (List ℕ)) → q + length rows ≤ p → dependents p (edges_from q rows) ≡ []
+pub dependents-after : (p q : ℕ) (rows : List (List ℕ)) → q + length rows ≤ p → dependents p (edges_from q rows) ≡ []
 dependents-after p q [] le = refl
 dependents-after p q (row ∷ rows) le = dependents-append p (row_edges q row) (edges_from (suc q) rows)
     ∙ (ap (λ (r : List ℕ). r ++ dependents p (edges_from (suc q) rows)) (dependents-other p q row (λ e. omega (arith, le, e))) ∙ dependents-after p (suc q) rows (omega (arith, le)))
@@ -127,8 +127,8 @@ edge_there p s (e ∷ es) h =
     let later : 0 < times s (dependents p es) → Contains (e ∷ es) (p, s) = λ more. let c = edge_there p s es more in let lt : c.0 < length es = c.1 in (suc c.0, omega (arith, lt), c.2) in
     dite (ℕ_discrete e.0 p)
     (λ q. dite (ℕ_discrete e.1 s)
-        (λ r. (0, omega arith, ap (λ (x : ℕ). (x, e.1)) q ∙ ap (λ (x : ℕ). (p, x)) r))
-        (λ n. later (omega (arith, h, sum, ap (λ (b : Bool). times s (cond b (e.1 ∷ []) [])) (eq-eqb e.0 p q), one-other s e.1 n))))
+    (λ r. (0, omega arith, ap (λ (x : ℕ). (x, e.1)) q ∙ ap (λ (x : ℕ). (p, x)) r))
+    (λ n. later (omega (arith, h, sum, ap (λ (b : Bool). times s (cond b (e.1 ∷ []) [])) (eq-eqb e.0 p q), one-other s e.1 n))))
     (λ n. later (omega (arith, h, sum, ap (λ (b : Bool). times s (cond b (e.1 ∷ []) [])) (ne_eqb e.0 p n))))
 
 -- an edge is in the list where its step is a dependent of its producer

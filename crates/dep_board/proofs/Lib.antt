@@ -6,3 +6,4 @@ pub mod Passing
 pub mod Downs
 pub mod Opens
 pub mod RuleLaws
+pub mod PlanRows

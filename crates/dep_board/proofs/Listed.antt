@@ -6,7 +6,7 @@ use native.Mathlib.Decide.{ℕ_discrete, dec_le}
 use Rattle.std.specs.List.Sorted.{IsStrictlyIncreasing}
 use Rattle.std.proofs.lemmas.List.Kept.{AllPairs-from_increasing}
 use Rattle.dep_board.specs.Counts.{total, one_at, times, last_of, IsPart}
-use Rattle.dep_board.specs.Edges.{producer_of, producers, dependents}
+use Rattle.dep_board.specs.Edges.{producer_of, producers}
 use Rattle.dep_board.specs.Rule.{downs_in, down_in}
 use Rattle.dep_board.specs.declared.view.SeatView.{SeatView}
 

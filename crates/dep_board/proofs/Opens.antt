@@ -1,5 +1,5 @@
 -- The words of a board before its first step.
-use Rattle.std.proofs.Common.{◌≡◌, ℕ, zero, suc, ◌+◌, ◌-◌, ◌<◌, ◌≤◌, ◌^◌, List, [], ◌∷◌, length, get_or, set, drop, replicate, sym, refl, ap, subst, ◌∙◌, arith, length-set, get_or-set_other, get_or-set_same}
+use Rattle.std.proofs.Common.{◌≡◌, ℕ, suc, ◌+◌, ◌-◌, ◌<◌, ◌≤◌, ◌^◌, List, ◌∷◌, length, get_or, set, drop, replicate, sym, ap, subst, ◌∙◌, arith, length-set, get_or-set_other, get_or-set_same}
 use Rattle.std.specs.List.{All}
 use Rattle.std.proofs.lemmas.List.{length-replicate, get_or-replicate, drop_all}
 use lib.Seq.{drop-cons}
@@ -9,7 +9,7 @@ use Rattle.dep_board.specs.Counts.{one_at, times}
 use Rattle.dep_board.specs.Edges.{producers, edges_from, edges_of, AreRows}
 use Rattle.dep_board.proofs.Downs.{next}
 use Rattle.dep_board.proofs.EdgeLemmas.{first_row, few_from, none_past}
-use Rattle.dep_board.proofs.Listed.{one-same, one-other, rising_once}
+use Rattle.dep_board.proofs.Listed.{one-same, one-other}
 
 -- the steps of a row before i are counted
 pub record CountedTo (olds news : List ℕ) (row : List ℕ) (i : ℕ) : Type 0 where

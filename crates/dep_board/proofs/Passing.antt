@@ -1,14 +1,13 @@
 -- What a pass keeps between two calls.
-use Rattle.std.proofs.Common.{◌≡◌, ℕ, ◌+◌, ◌<◌, ◌≤◌, ◌↔◌, ◌≢◌, Bool, true, false, cond, eqb, nat_lt, lt-ltb, le-ltb, List, [], ◌∷◌, ◌++◌, length, sym, refl, ap, subst, ◌∙◌, arith}
-use Rattle.std.proofs.lemmas.List.{length-append}
+use Rattle.std.proofs.Common.{◌≡◌, ℕ, ◌+◌, ◌<◌, ◌≤◌, ◌↔◌, ◌≢◌, Bool, cond, nat_lt, lt-ltb, le-ltb, List, [], ◌∷◌, ◌++◌, length, sym, refl, ap, subst, ◌∙◌, arith}
 use mathlib.Core.Logic.{dite}
 use native.Mathlib.Decide.{ℕ_discrete, dec_le}
 use Rattle.dep_board.specs.declared.view.SeatView.{SeatView}
 use Rattle.dep_board.specs.Counts.{one_at, times, IsPart}
-use Rattle.dep_board.specs.Edges.{producer_of, producers, dependents}
-use Rattle.dep_board.specs.Rule.{all_parts, handed_on, left_over, blank, joined, with_late, ended_in, down_in}
+use Rattle.dep_board.specs.Edges.{producers, dependents}
+use Rattle.dep_board.specs.Rule.{all_parts, left_over, blank, joined, with_late, ended_in, down_in}
 use Rattle.dep_board.specs.Steps.{IsSound, SaysOf}
-use Rattle.dep_board.specs.Passes.{IsSettled, IsReleased, HasAllProducers, kept_in, open_edges}
+use Rattle.dep_board.specs.Passes.{IsSettled, IsReleased, kept_in, open_edges}
 use Rattle.dep_board.proofs.Keeps.{handed_on_fits}
 use Rattle.dep_board.proofs.EdgeLemmas.{times_across}
 use Rattle.dep_board.proofs.Listed.{times-append, one-same, one-other, producers-append, length_le, some_in, times-head, part_times}

@@ -1,12 +1,10 @@
 -- What the rule says of all views together.
-use Rattle.std.proofs.Common.{◌≡◌, ℕ, ◌+◌, ◌<◌, ◌≤◌, List, length, get_or, sym, ◌∙◌, arith}
+use Rattle.std.proofs.Common.{◌≡◌, ℕ, ◌+◌, ◌<◌, ◌≤◌, List, length, get_or, ◌∙◌, arith}
 use mathlib.Core.Logic.{dite}
 use native.Mathlib.Decide.{dec_le}
-use Rattle.atomic_table.specs.Table.{State}
-use Rattle.dep_board.specs.declared.view.SeatView.{SeatView}
 use Rattle.dep_board.specs.Counts.{times, total}
 use Rattle.dep_board.specs.Edges.{producers}
-use Rattle.dep_board.specs.Rule.{IsKept, due, told_in, down_in, downs_in}
+use Rattle.dep_board.specs.Rule.{IsKept, due, told_in, down_in}
 use Rattle.dep_board.proofs.Keeps.{Board, due-le, due-zero, due-nil, due-now}
 use Rattle.dep_board.proofs.Listed.{length_le, times_same, pool, pool-length, pool-times}
 

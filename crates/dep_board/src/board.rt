@@ -1,4 +1,6 @@
 use crate::inner::{InnerBoard, InnerPass};
+use crate::rows::rows_of;
+use chain_builder::Plan;
 use item_types::{Memory, Seq};
 use std::alloc::Global;
 use std::marker::Model;
@@ -63,13 +65,30 @@ impl Pass {
 }
 
 impl Board {
-    ghost use Rattle.std.specs.Prelude.{◌≡◌, ℕ, ◌+◌, ◌-◌, ◌<◌, ◌≤◌, ◌↔◌, [], ◌∷◌, ◌++◌, length, IfOk, OnErr, IfSome, IfNone};
+    ghost use Rattle.std.specs.Prelude.{◌≡◌, ℕ, ◌+◌, ◌-◌, ◌<◌, ◌≤◌, ◌↔◌, [], ◌∷◌, ◌++◌, length, Contains, IfOk, OnErr, IfSome, IfNone};
+    ghost use Rattle.chain_builder.specs.Edge.{HasEdge};
     ghost use Rattle.std.specs.List.Sorted.{IsStrictlyIncreasing};
     ghost use Rattle.dep_board.specs.Counts.{times, IsPart};
     ghost use Rattle.dep_board.specs.Edges.{dependents};
     ghost use Rattle.dep_board.specs.Passes.{IsReleased, open_edges};
     ghost use Rattle.dep_board.specs.Rule.{all_parts, handed_on};
     ghost use Rattle.dep_board.specs.Views.{with_lists, with_parts};
+
+    /// The board of a plan, and its opening pass, which has all parts and empty lists. The board's
+    /// plan is the number of steps, and the list of the edges, each once.
+    ///
+    /// # Errors
+    /// `Memory` for want of memory.
+    pub fn new(alloc: Global, plan: &Plan) -> Result<(Board, Pass), Memory>
+        ensures steps { IfOk result (λ r. r.0.steps ≡ length plan.now.steps) }
+        ensures edges { IfOk result (λ r. (p s : ℕ) → Contains r.0.edges (p, s) ↔ HasEdge plan.now.steps plan.now.finals p s) }
+        ensures ascending { IfOk result (λ r. (p : ℕ) → IsStrictlyIncreasing (dependents p r.0.edges)) }
+        ensures pass { IfOk result (λ r. r.1 ≡ record { of = r.0; parts = all_parts; ended = []; told = []; late = [] }) }
+    {
+        let rows = rows_of(alloc, plan)?;
+        let (board, pass) = InnerBoard::new(alloc, rows)?;
+        Ok((Board { inner: board }, Pass { inner: pass }))
+    }
 
     /// A new pass with empty lists, which carries the same plan. The old one keeps its lists. The new
     /// one gets a sixty-fourth of its parts, so a board can be split thousands of times. It takes no

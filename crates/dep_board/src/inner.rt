@@ -158,13 +158,7 @@ impl InnerBoard {
     }
 
     /// Counts down the edges out of the step that the seat ended last, to each step of its row.
-    fn count_down(
-        &self,
-        seat: &mut Seat<(), SeatView>,
-        step: u32,
-        row: &[u32],
-        told: &mut Vec<u32>,
-    )
+    fn count_down(&self, seat: &mut Seat<(), SeatView>, step: u32, row: &[u32], told: &mut Vec<u32>)
         requires fits { seat.old.table_id ≡ self.now.table.shared.table_id }
         requires row { (step < length self.now.rows) × (row.now ≡ slice_index_or self.now.rows step row.now) }
         requires part { 0 < seat.old.me.0.parts }

@@ -10,6 +10,7 @@ mod board;
 mod inner;
 mod laws;
 mod opening;
+mod rows;
 mod rule;
 mod view;
 

@@ -1,4 +1,4 @@
-use Rattle.std.proofs.Common.{arith, ap, sym, subst, ◌∙◌, ℕ, List, ◌+◌, get_or}
+use Rattle.std.proofs.Common.{arith, ap, sym, subst, ◌∙◌, ℕ, List, get_or}
 use Rattle.std.specs.List.Sorted.{IsStrictlyIncreasing}
 use Rattle.dep_board.proofs.Opens.{opened_small, opened_next}
 use Rattle.dep_board.proofs.Listed.{rising_once}

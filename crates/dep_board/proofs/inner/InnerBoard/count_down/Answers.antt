@@ -2,7 +2,7 @@ use Rattle.std.proofs.Common.{rules, refl, ap, sym, ◌∙◌, ℕ, ◌+◌, ◌
 use Rattle.std.proofs.lemmas.List.{append-nil, get_or_default}
 use Rattle.dep_board.specs.Edges.{edges_of}
 use Rattle.dep_board.proofs.Keeps.{counts_down}
-use Rattle.dep_board.proofs.Downs.{At, at_down, at_end, may_count}
+use Rattle.dep_board.proofs.Downs.{at_down, at_end, may_count}
 use Rattle.dep_board.proofs.EdgeLemmas.{row_inside}
 use Rattle.dep_board.proofs.inner.InnerBoard.count_down.Goals as goal
 use Rattle.dep_board.proofs.inner.InnerBoard.count_down.Goals.{then-found-eq1, else-found-eq1}

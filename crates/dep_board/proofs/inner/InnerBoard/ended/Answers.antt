@@ -12,13 +12,12 @@ use Rattle.dep_board.proofs.Passing.{late_sound, late_settled, more_settled, tol
 use Rattle.dep_board.proofs.inner.InnerBoard.ended.Goals as goal
 
 pub swap-requires : goal.swap-requires
-swap-requires c = let board = c.args.self.now in let pass = c.args.pass.now in let key = board.table.shared.key in
-    (
-      search rules,
-      omega (arith, board.sized, c.requires.range, c.len.ensures),
-      claims (length key) (edges_of key) _ _ pass.seat.me c.args.step _ (omega (arith, ap length board.planned, c.len.ensures)) (omega (arith, ap length board.planned, c.requires.range))
-          (c.requires.fits.1 ∙ sym (ap length board.planned)) (omega (arith, pass.some_part, pass.counted)),
-    )
+swap-requires c = let board = c.args.self.now in let pass = c.args.pass.now in let key = board.table.shared.key in (
+  search rules,
+  omega (arith, board.sized, c.requires.range, c.len.ensures),
+  claims (length key) (edges_of key) _ _ pass.seat.me c.args.step _ (omega (arith, ap length board.planned, c.len.ensures)) (omega (arith, ap length board.planned, c.requires.range))
+      (c.requires.fits.1 ∙ sym (ap length board.planned)) (omega (arith, pass.some_part, pass.counted)),
+)
 
 pub invariant_of-pass : goal.invariant_of-pass
 invariant_of-pass c =
@@ -130,4 +129,4 @@ returns-clause-exact c =
     subst (λ l. pass.parts ≡ all_parts → (s : ℕ) → (0 < times s l) ↔ IsReleased step s (edges_of rows) (v.ended ++ step ∷ [])) (sym c.from_vec.ensures)
     (λ whole. subst (λ es. (s : ℕ) → (0 < times s news) ↔ IsReleased step s es (v.ended ++ step ∷ [])) c.requires.fits.2
     (told_exactly step v counted news pass.settled pass.sound on c.load.ensures.2.1 (sym pass.counted ∙ whole) (c.count_down.ensures.parts ∙ (ap (λ m. m.0.parts) is ∙ (sym pass.counted ∙ whole))) same
-        (c.count_down.ensures.same.2 ∙ ap (λ m. m.0.ended) is) (c.count_down.ensures.told ∙ ap (λ l. l ++ news) (ap (λ m. m.0.told) is)) won.0 (subst (λ d. IsPart news d) dependents_are c.count_down.ensures.part)))
+    (c.count_down.ensures.same.2 ∙ ap (λ m. m.0.ended) is) (c.count_down.ensures.told ∙ ap (λ l. l ++ news) (ap (λ m. m.0.told) is)) won.0 (subst (λ d. IsPart news d) dependents_are c.count_down.ensures.part)))

@@ -1,5 +1,5 @@
 use Rattle.std.proofs.Common.{rules, refl, ap, sym, ◌∙◌, subst, ◌≤◌, ◌≡◌, arith, length}
-use Rattle.dep_board.specs.Edges.{producers, edges_of}
+use Rattle.dep_board.specs.Edges.{producers}
 use Rattle.dep_board.specs.Passes.{open_edges}
 use Rattle.dep_board.proofs.EdgeLemmas.{few_from}
 use Rattle.dep_board.proofs.Keeps.{looks}
