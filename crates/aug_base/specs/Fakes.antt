@@ -3,13 +3,14 @@ use Rattle.std.specs.Prelude.{ℕ, List, Some}
 use Rattle.aug_base.specs.declared.mem_shelf.MemShelf.{MemShelf}
 use Rattle.aug_base.specs.declared.mem_sink.MemSink.{MemSink}
 use Rattle.aug_base.specs.Causes.{next}
-use Rattle.aug_base.specs.Files.{Files, files_of}
+use Rattle.aug_base.specs.Files.{Files}
+use Rattle.aug_base.specs.MapOfFiles.{files_over, map_files}
 use Rattle.aug_base.specs.Shelves.{Shelved}
 use Rattle.aug_base.specs.Sinks.{Taken}
 
 -- the map of a shelf in memory
 abbrev pub mem_files : MemShelf → Files
-mem_files shelf = files_of shelf.files.items
+mem_files shelf = files_over shelf.given.items (map_files shelf.files)
 
 -- what it is as a shelf: it tells its map
 abbrev pub mem_shelved : MemShelf → Shelved

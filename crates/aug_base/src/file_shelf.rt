@@ -1,159 +1,60 @@
-ghost use Rattle.std.specs.Prelude.{◌≤◌, length, IfOk};
-
-use crate::{Shelf, ShelfErr};
-use item_types::{Bytes, Seq};
+use crate::host::Host;
+use crate::reading::{Fault, read_file};
+use crate::writing::write_file;
+use crate::{Shelf, ShelfErr, System};
+use item_types::Bytes;
 use std::alloc::Global;
-use std::fs;
 use std::fs::File;
-use std::io::{ErrorKind, Read, Write};
-use std::path::Path;
 use std::rt::Files;
 
 /// Real files. A name is a path, from the folder that the program runs in. It tells nothing of
 /// what the files hold.
 ///
-/// It is an edge of the product: its answers and its counts keep the promise of [`Shelf`], and
-/// what a file holds is the system's.
+/// What it makes of the system's calls is proved; the calls themselves are an edge of the product.
 #[derive(Drop)]
-pub struct FileShelf<R: Files + AllocGlobal> {
-    rt: R,
+pub struct FileShelf<S: System> {
+    system: S,
+    alloc: Global,
     read_faults: u64,
     write_faults: u64,
 }
 
-/// Why a file wasn't read or written.
-#[derive(Drop)]
-enum Fault {
-    Failed,
-    Memory,
-}
-
-/// How many bytes one call reads at most.
-const PIECE: usize = 4096;
-
-/// How many names beside a file are tried.
-const TRIES: u32 = 100;
-
-impl<R: Files + AllocGlobal> FileShelf<R> {
+impl<R: Files<File = File> + AllocGlobal> FileShelf<Host<R>> {
     ghost use Rattle.std.specs.Prelude.{◌≡◌, None};
     ghost use Rattle.aug_base.specs.Edges.{file_shelved};
 
     /// The files that the runtime reaches, and no fault is counted. It takes no memory.
-    pub fn new(rt: R) -> FileShelf<R>
+    pub fn new(rt: R) -> FileShelf<Host<R>>
         ensures { file_shelved result ≡ record { read_faults = 0; write_faults = 0; files = None } }
     {
+        let alloc = rt.alloc();
         FileShelf {
-            rt,
+            system: Host::new(rt),
+            alloc,
             read_faults: 0,
             write_faults: 0,
         }
     }
 }
 
-/// The first bytes of a file. What comes after them isn't read.
-fn read_file<R: Files>(rt: &R, alloc: Global, name: &str, limit: usize) -> Result<Bytes, Fault>
-    ensures { IfOk result (λ bytes. length bytes ≤ limit) }
-{
-    let mut file = match File::open(rt, name) {
-        Ok(file) => file,
-        Err(_) => return Err(Fault::Failed),
-    };
-    let mut found = Vec::new(alloc);
-    let mut buffer = [0u8; PIECE];
-    for _ in 0..u64::MAX {
-        let room = (limit - found.len()).min(PIECE);
-        if room == 0 {
-            return Ok(Seq::from_vec(found));
-        }
-        match file.read(&mut buffer[..room]) {
-            Ok(0) => return Ok(Seq::from_vec(found)),
-            Ok(count) => {
-                if found.extend_from_slice(&buffer[..count]).is_err() {
-                    return Err(Fault::Memory);
-                }
-            }
-            Err(error) => {
-                if error.kind() != ErrorKind::Interrupted {
-                    return Err(Fault::Failed);
-                }
-            }
-        }
-    }
-    Err(Fault::Failed)
-}
-
-/// Writes all the bytes to a new file and closes it. It answers whether that was done.
-fn fill<F: Write + Drop>(mut file: F, bytes: &[u8]) -> bool {
-    let mut done = 0;
-    for _ in 0..u64::MAX {
-        if done == bytes.len() {
-            return true;
-        }
-        match file.write(&bytes[done..]) {
-            Ok(0) => return false,
-            Ok(count) => done += count,
-            Err(error) => {
-                if error.kind() != ErrorKind::Interrupted {
-                    return false;
-                }
-            }
-        }
-    }
-    false
-}
-
-/// Fills a new file beside the named one, under a name that no file has, and says that name.
-fn write_beside<R: Files + AllocGlobal>(rt: &R, name: &str, bytes: &[u8]) -> Result<String, Fault> {
-    for number in 0..TRIES {
-        let beside = match format!(in rt.alloc(); "{name}.{number}.part") {
-            Ok(beside) => beside,
-            Err(_) => return Err(Fault::Memory),
-        };
-        match File::create_new(rt, beside.as_str()) {
-            Ok(file) => {
-                if fill(file, bytes) {
-                    return Ok(beside);
-                }
-                let _ = fs::remove_file(rt, beside.as_str());
-                return Err(Fault::Failed);
-            }
-            Err(error) => {
-                if error.kind() != ErrorKind::AlreadyExists {
-                    return Err(Fault::Failed);
-                }
-            }
-        }
-    }
-    Err(Fault::Failed)
-}
-
-/// Replaces a file whole: a new file is filled beside it and takes its name. It makes the folders
-/// that are missing.
-fn write_file<R: Files + AllocGlobal>(rt: &R, name: &str, bytes: &[u8]) -> Result<(), Fault> {
-    if let Some(folder) = Path::new(name).parent() {
-        if fs::create_dir_all(rt, folder).is_err() {
-            return Err(Fault::Failed);
-        }
-    }
-    let beside = match write_beside(rt, name, bytes) {
-        Ok(beside) => beside,
-        Err(fault) => return Err(fault),
-    };
-    if fs::rename(rt, beside.as_str(), name).is_err() {
-        let _ = fs::remove_file(rt, beside.as_str());
-        return Err(Fault::Failed);
-    }
-    Ok(())
-}
-
-impl<R: Files + AllocGlobal> Shelf for FileShelf<R> {
-    ghost use Rattle.aug_base.specs.Edges.{file_shelved};
+impl<S: System> Shelf for FileShelf<S> {
+    ghost use Rattle.std.specs.Prelude.{◌≡◌, IfOk, IfErr, IfSome, OnOk, OnErr};
+    ghost use Rattle.aug_base.specs.Causes.{Ends, Rose};
+    ghost use Rattle.aug_base.specs.Edges.{file_shelved, system_of};
+    ghost use Rattle.aug_base.specs.Shelves.{Holds, Reads, Writes};
+    ghost use Rattle.aug_base.specs.Systems.{Replaced, StaysBut};
 
     ghost state = { file_shelved };
 
     /// `Failed` also where there is no such file, since the map isn't told; never `Absent`.
-    fn read(&mut self, alloc: Global, name: &str, limit: usize) -> Result<Bytes, ShelfErr> {
-        match read_file(&self.rt, alloc, name, limit) {
+    fn read(&mut self, alloc: Global, name: &str, limit: usize) -> Result<Bytes, ShelfErr>
+        ensures reads { Reads name.now limit (file_shelved self.old) (file_shelved self.new) result }
+        ensures ends { Ends (file_shelved self.old).read_faults (file_shelved self.new).read_faults }
+        ensures bytes { IfOk result (λ bytes. IfSome (S.state (system_of self.old)).files (λ m. Holds m name.now limit bytes)) }
+        ensures stays { (S.state (system_of self.new)).files ≡ (S.state (system_of self.old)).files }
+        ensures cause { IfErr result (λ err. err ≡ ShelfErr.Failed → Rose (S.state (system_of self.old)).faults (S.state (system_of self.new)).faults) }
+    {
+        match read_file(&mut self.system, alloc, name, limit) {
             Ok(bytes) => Ok(bytes),
             Err(Fault::Memory) => Err(ShelfErr::Memory),
             Err(Fault::Failed) => {
@@ -166,8 +67,14 @@ impl<R: Files + AllocGlobal> Shelf for FileShelf<R> {
     /// Makes the folders that are missing. The bytes go to a new file in the same folder, named
     /// `NAME.0.part` or with a higher number, and the system then gives it the name in one step:
     /// whoever reads finds the old bytes or the new ones, and after a refusal the old ones.
-    fn write(&mut self, name: &str, bytes: &[u8]) -> Result<(), ShelfErr> {
-        match write_file(&self.rt, name, bytes) {
+    fn write(&mut self, name: &str, bytes: &[u8]) -> Result<(), ShelfErr>
+        ensures writes { Writes name.now bytes.now (file_shelved self.old) (file_shelved self.new) result }
+        ensures ends { Ends (file_shelved self.old).write_faults (file_shelved self.new).write_faults }
+        ensures replaced { OnOk result (Replaced name.now bytes.now (S.state (system_of self.old)).files (S.state (system_of self.new)).files) }
+        ensures stays { OnErr result (StaysBut name.now (S.state (system_of self.old)).files (S.state (system_of self.new)).files) }
+        ensures cause { IfErr result (λ err. err ≡ ShelfErr.Failed → Rose (S.state (system_of self.old)).faults (S.state (system_of self.new)).faults) }
+    {
+        match write_file(&mut self.system, self.alloc, name, bytes) {
             Ok(()) => Ok(()),
             Err(Fault::Memory) => Err(ShelfErr::Memory),
             Err(Fault::Failed) => {
@@ -207,12 +114,56 @@ mod tests {
         assert!(rt; holds(shelf.read(alloc, name, 9), b"second"));
         assert!(rt; holds(shelf.read(alloc, name, 3), b"sec"));
         assert!(rt; matches!(shelf.write(folder.as_str(), b"x"), Err(ShelfErr::Failed)));
-        assert_eq!(rt; (shelf.read_faults, shelf.write_faults), (1, 1));
+        assert!(rt; matches!(shelf.read(alloc, folder.as_str(), 9), Err(ShelfErr::Failed)));
+        assert_eq!(rt; (shelf.read_faults, shelf.write_faults), (2, 1));
         fs::remove_file(&rt, name)?;
         fs::remove_dir(&rt, format!(in alloc; "{folder}/one/two")?.as_str())?;
         fs::remove_dir(&rt, format!(in alloc; "{folder}/one")?.as_str())?;
         fs::remove_dir(&rt, folder.as_str())?;
         assert!(rt; !fs::exists(&rt, format!(in alloc; "{folder}.0.part")?.as_str())?);
+        Ok(())
+    }
+
+    /// A name in the folder for temporary files.
+    fn temporary(rt: HostRuntime, name: &str) -> Result<String, Fail> {
+        let alloc = rt.alloc();
+        let folder = env::temp_dir(&rt)?;
+        let number = process::id(rt.process());
+        Ok(format!(in alloc; "{}/aug-base-{number}-{name}", folder.as_str())?)
+    }
+
+    #[test]
+    fn keeps_100_000_bytes(rt: HostRuntime) -> Result<(), Fail> {
+        let alloc = rt.alloc();
+        let mut bytes = Vec::new(alloc);
+        for number in 0..100_000u32 {
+            bytes.push((number % 251) as u8)?;
+        }
+        let name = temporary(rt, "long")?;
+        let mut shelf = FileShelf::new(rt);
+        assert!(rt; shelf.write(name.as_str(), bytes.as_slice()).is_ok());
+        assert!(rt; holds(shelf.read(alloc, name.as_str(), 200_000), bytes.as_slice()));
+        bytes.truncate(70_000);
+        assert!(rt; holds(shelf.read(alloc, name.as_str(), 70_000), bytes.as_slice()));
+        fs::remove_file(&rt, name.as_str())?;
+        Ok(())
+    }
+
+    #[test]
+    fn takes_over_what_a_stopped_run_left(rt: HostRuntime) -> Result<(), Fail> {
+        let alloc = rt.alloc();
+        let name = temporary(rt, "left")?;
+        let left = format!(in alloc; "{name}.0.part")?;
+        fs::write(&rt, left.as_str(), "of a run that was stopped")?;
+        let mut shelf = FileShelf::new(rt);
+        assert!(rt; shelf.write(name.as_str(), b"whole").is_ok());
+        assert!(rt; holds(shelf.read(alloc, name.as_str(), 9), b"whole"));
+        assert!(rt; !fs::exists(&rt, left.as_str())?);
+        fs::create_dir(&rt, left.as_str())?;
+        assert!(rt; shelf.write(name.as_str(), b"again").is_ok());
+        assert!(rt; holds(shelf.read(alloc, name.as_str(), 9), b"again"));
+        fs::remove_dir(&rt, left.as_str())?;
+        fs::remove_file(&rt, name.as_str())?;
         Ok(())
     }
 }

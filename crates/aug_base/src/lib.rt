@@ -9,20 +9,26 @@
 mod errors;
 mod file_shelf;
 mod gate;
+mod host;
 mod mem_shelf;
 mod mem_sink;
+mod reading;
 mod shelf;
 mod sink;
 mod std_sink;
+mod system;
+mod writing;
 
 pub use errors::{ShelfErr, SinkErr};
 pub use file_shelf::FileShelf;
 pub use gate::{Gate, NoGate};
+pub use host::Host;
 pub use mem_shelf::MemShelf;
 pub use mem_sink::MemSink;
 pub use shelf::Shelf;
 pub use sink::{Sink, write_all};
-pub use std_sink::StdSink;
+pub use std_sink::{StdSink, StdStream};
+pub use system::{Stream, System, SystemErr};
 
 #[cfg(test)]
 mod tests;

@@ -1,16 +1,20 @@
-ghost use Rattle.std.specs.Prelude.{◌≡◌, ◌<◌, ◌++◌, [], ◌∷◌, length, slice_set, OnOk, OnErr, IfOk};
-ghost use Rattle.aug_base.specs.Files.{place, files_of, with_file};
+ghost use Rattle.std.specs.Prelude.{◌≡◌, ◌<◌, ◌++◌, [], ◌∷◌, OnOk, OnErr, IfOk, IfErr, option_map, vec_len, vec_capacity};
+ghost use Rattle.aug_base.specs.Files.{place, with_file};
+ghost use Rattle.aug_base.specs.MapOfFiles.{files_over, map_files};
 
 use crate::{Shelf, ShelfErr};
 use item_types::{Bytes, Memory, Seq, Text};
 use std::alloc::Global;
+use std::collections::BTreeMap;
 
 /// A shelf in memory, for tests and for trying a command out. It tells its map, and fails at the
 /// calls whose numbers are listed; reads and writes are counted together, from 0.
 #[derive(Debug, Drop)]
 pub struct MemShelf {
     alloc: Global,
-    files: Vec<(Text, Bytes)>,
+    /// What it was made with, until a call puts it into the map.
+    given: Vec<(Text, Bytes)>,
+    files: BTreeMap<String, Bytes>,
     failing: Seq<u64>,
     calls: u64,
     read_faults: u64,
@@ -29,42 +33,59 @@ fn find(files: &[(Text, Bytes)], name: &str) -> usize
     files.len()
 }
 
-/// Puts the file in the place of the first of its name, or at the end.
-fn replace(
-    alloc: Global,
-    files: &mut Vec<(Text, Bytes)>,
-    name: &str,
-    bytes: &[u8],
-) -> Result<(), Memory>
-    ensures ok { OnOk result (files_of files.new.items ≡ with_file (name.now, bytes.now) (files_of files.old.items)) }
-    ensures err { OnErr result (files.new.items ≡ files.old.items) }
+/// Puts a file into the map, in place of what stood under its name.
+///
+/// # Errors
+/// Want of memory: the map stays, and the file comes back.
+fn put(files: &mut BTreeMap<String, Bytes>, file: (Text, Bytes)) -> Result<(), (Text, Bytes)>
+    ensures ok { OnOk result (map_files files.new ≡ with_file file (map_files files.old)) }
+    ensures err { OnErr result (map_files files.new ≡ map_files files.old) }
+    ensures back { IfErr result (λ back. back ≡ file) }
 {
-    let file = (Text::of(alloc, name)?, copy_of(alloc, bytes)?);
-    let shown = files.as_slice();
-    let at = find(shown, name);
-    if at < shown.len() {
-        put_at(files, at, file);
-        Ok(())
-    } else {
-        append(files, file)
+    let (name, bytes) = file;
+    match files.insert(name.into_string(), bytes) {
+        Ok(_) => Ok(()),
+        Err(failed) => {
+            let (name, bytes) = failed.value;
+            Err((Text::from_string(name), bytes))
+        }
     }
 }
 
-fn put_at(files: &mut Vec<(Text, Bytes)>, at: usize, file: (Text, Bytes))
-    requires { at < length files.old.items }
-    ensures { files.new.items ≡ slice_set files.old.items at file }
+/// Puts back the file that was taken off the end.
+fn put_back(given: &mut Vec<(Text, Bytes)>, file: (Text, Bytes))
+    requires { vec_len given.old < vec_capacity given.old }
+    ensures { given.new.items ≡ given.old.items ++ file ∷ [] }
 {
-    files[at] = file;
+    let _ = given.push(file);
 }
 
-fn append(files: &mut Vec<(Text, Bytes)>, file: (Text, Bytes)) -> Result<(), Memory>
-    ensures ok { OnOk result (files.new.items ≡ files.old.items ++ file ∷ []) }
-    ensures err { OnErr result (files.new.items ≡ files.old.items) }
+/// Puts all that was given into the map, the last file first, so that the first of a name stays.
+///
+/// # Errors
+/// Want of memory: the rest stays where it is.
+fn settle(given: &mut Vec<(Text, Bytes)>, files: &mut BTreeMap<String, Bytes>) -> Result<(), Memory>
+    ensures same { files_over given.new.items (map_files files.new) ≡ files_over given.old.items (map_files files.old) }
+    ensures ok { OnOk result (given.new.items ≡ []) }
 {
-    match files.push(file) {
-        Ok(()) => Ok(()),
-        Err(_) => Err(Memory),
+    while let Some(file) = given.pop() {
+        if let Err(file) = put(files, file) {
+            put_back(given, file);
+            return Err(Memory);
+        }
     }
+    Ok(())
+}
+
+/// Puts a file into the map; where there is no memory for it the map stays.
+fn add(files: &mut BTreeMap<String, Bytes>, file: (Text, Bytes)) -> Result<(), Memory>
+    ensures ok { OnOk result (map_files files.new ≡ with_file file (map_files files.old)) }
+    ensures err { OnErr result (map_files files.new ≡ map_files files.old) }
+{
+    if put(files, file).is_err() {
+        return Err(Memory);
+    }
+    Ok(())
 }
 
 fn copy_of(alloc: Global, bytes: &[u8]) -> Result<Bytes, Memory>
@@ -73,9 +94,20 @@ fn copy_of(alloc: Global, bytes: &[u8]) -> Result<Bytes, Memory>
     Ok(Seq::from_vec(Vec::from_slice(alloc, bytes)?))
 }
 
+/// What the map has under a name.
+fn found<'a>(files: &'a BTreeMap<String, Bytes>, name: &str) -> Option<&'a [u8]>
+    ensures { option_map (λ bytes. bytes.now) result ≡ map_files files.now name.now }
+{
+    match files.get(name) {
+        Some(bytes) => Some(bytes.as_slice()),
+        None => None,
+    }
+}
+
 impl MemShelf {
-    ghost use Rattle.std.specs.Prelude.{Some, option_map};
+    ghost use Rattle.std.specs.Prelude.{Some};
     ghost use Rattle.aug_base.specs.Fakes.{mem_files, mem_shelved, mem_failing, mem_calls};
+    ghost use Rattle.aug_base.specs.Files.{files_of};
 
     /// A shelf with these files, the first of a name before the others, and no fault is counted.
     /// It takes no memory.
@@ -86,7 +118,8 @@ impl MemShelf {
     {
         MemShelf {
             alloc,
-            files: files.into_vec(),
+            given: files.into_vec(),
+            files: BTreeMap::new(alloc),
             failing,
             calls: 0,
             read_faults: 0,
@@ -99,14 +132,30 @@ impl MemShelf {
     pub fn file(&self, name: &str) -> Option<&[u8]>
         ensures { option_map (λ bytes. bytes.now) result ≡ mem_files self.now name.now }
     {
-        let files = self.files.as_slice();
-        let at = find(files, name);
-        if at < files.len() {
-            Some(files[at].1.as_slice())
+        let given = self.given.as_slice();
+        let at = find(given, name);
+        if at < given.len() {
+            Some(given[at].1.as_slice())
         } else {
-            None
+            found(&self.files, name)
         }
     }
+}
+
+/// Writes a file into the map.
+fn write_in(
+    alloc: Global,
+    given: &mut Vec<(Text, Bytes)>,
+    files: &mut BTreeMap<String, Bytes>,
+    name: &str,
+    bytes: &[u8],
+) -> Result<(), Memory>
+    ensures ok { OnOk result (files_over given.new.items (map_files files.new) ≡ with_file (name.now, bytes.now) (files_over given.old.items (map_files files.old))) }
+    ensures err { OnErr result (files_over given.new.items (map_files files.new) ≡ files_over given.old.items (map_files files.old)) }
+{
+    settle(given, files)?;
+    let file = (Text::of(alloc, name)?, copy_of(alloc, bytes)?);
+    add(files, file)
 }
 
 impl Shelf for MemShelf {
@@ -134,6 +183,9 @@ impl Shelf for MemShelf {
         if self.failing.as_slice().contains(&number) {
             self.read_faults = self.read_faults.saturating_add(1);
             return Err(ShelfErr::Failed);
+        }
+        if settle(&mut self.given, &mut self.files).is_err() {
+            return Err(ShelfErr::Memory);
         }
         match self.file(name) {
             Some(bytes) => {
@@ -164,7 +216,7 @@ impl Shelf for MemShelf {
             self.write_faults = self.write_faults.saturating_add(1);
             return Err(ShelfErr::Failed);
         }
-        match replace(self.alloc, &mut self.files, name, bytes) {
+        match write_in(self.alloc, &mut self.given, &mut self.files, name, bytes) {
             Ok(()) => Ok(()),
             Err(_) => Err(ShelfErr::Memory),
         }
