@@ -1,2 +1,3 @@
-pub mod Elements
-pub mod Lowering
+pub mod CallerLemmas
+mod Elements
+mod Lowering

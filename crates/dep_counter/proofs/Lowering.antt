@@ -1,15 +1,16 @@
 -- Counts are lowered one by one, and stay the numbers of edge producers that haven't ended.
-use Rattle.std.proofs.Common.{◌≡◌, ◌≢◌, ◌↔◌, ℕ, zero, suc, ◌+◌, ◌-◌, ◌<◌, ◌≤◌, List, [], ◌∷◌, ◌++◌, Bool, true, false, not, ◌==◌, cond, length, get_or, set, take, Contains, filter, refl, sym, ap, ◌∙◌, subst, arith, ◌⊎◌, inl, inr, length-set, Result, Ok, Err, IfOk}
+use Rattle.std.proofs.Common.{◌≡◌, ◌≢◌, ◌↔◌, ℕ, zero, suc, ◌+◌, ◌-◌, ◌<◌, ◌≤◌, List, [], ◌∷◌, ◌++◌, ◌==◌, cond, length, get_or, set, take, Contains, filter, refl, sym, ap, ◌∙◌, subst, arith, ◌⊎◌, inl, inr, length-set}
 use Rattle.std.specs.List.Sorted.{IsStrictlyIncreasing}
-use Rattle.std.proofs.lemmas.Bool.{eqb-true, eqb-false, eq-eqb, cases_lt}
+use Rattle.std.proofs.lemmas.Bool.{eqb-true, eq-eqb, cases_lt}
 use Rattle.std.proofs.lemmas.List.{take_more, get_or-set_same, get_or-set_other, get_or_past, get_or_append_left, get_or_push, length_push}
-use Rattle.std.proofs.lemmas.List.Elements.{Contains-append_cases, Contains-append_left, Contains-append_right}
+use Rattle.std.proofs.lemmas.List.Elements.{Contains-append_cases, Contains-append_left, Contains-append_right, filter-append}
 use Rattle.std.proofs.lemmas.List.Kept.{IsStrictlyIncreasing-filter}
 use Rattle.chain_builder.specs.EffectiveProducer.{produced}
 use Rattle.chain_builder.specs.Lists.{list_at}
 use Rattle.chain_builder.specs.PlanView.{PlanView}
 use Rattle.dep_counter.specs.Counting.{HowMany, Leads, IsOpen, AreCounts, IsReleasedBy, AreLowered}
-use Rattle.dep_counter.proofs.Elements.{in_head, in_none, in_cases, filtered, passes, is_other, other, other_ne, shorter, below_at, same_rising}
+use Rattle.dep_counter.proofs.CallerLemmas.{in_head, in_none, in_cases, decide}
+use Rattle.dep_counter.proofs.Elements.{filtered, passes, is_other, other, other_ne, shorter, below_at, same_rising}
 
 one_is : (d s : ℕ) → Contains (d ∷ []) s → d ≡ s
 one_is d s c = elim (in_cases d [] s c) [ inl e ↦ e | inr t ↦ absurd (in_none s t) ]
@@ -46,6 +47,20 @@ pub lowered_turn : (steps : List ℕ) (i : ℕ) (old mid new : List ℕ) → IsS
 lowered_turn steps i old mid new up lt one two =
     let P : List ℕ → Type 0 = λ l. AreLowered l old new in
     subst P (sym (take_more steps i 0 lt)) (lowered_more (take i steps) (get_or steps i 0) old mid new one (λ c. let b : get_or steps i 0 < get_or steps i 0 = below_at steps i up lt (get_or steps i 0) c in omega arith) two)
+
+-- a step more is told, where its count was at one before all
+pub told_turn : (steps : List ℕ) (i : ℕ) (old mid told new : List ℕ) → IsStrictlyIncreasing steps → i < length steps → AreLowered (take i steps) old mid
+    → told ≡ filter (λ s. get_or old s 0 == 1) (take i steps) → new ≡ told ++ cond (get_or mid (get_or steps i 0) 0 == 1) (get_or steps i 0 ∷ []) []
+    → new ≡ filter (λ s. get_or old s 0 == 1) (take (i + 1) steps)
+told_turn steps i old mid told new up lt low told_is is =
+    let d : ℕ = get_or steps i 0 in
+    let same : get_or mid d 0 ≡ get_or old d 0 = low.others d (λ c. let b : d < d = below_at steps i up lt d c in omega (arith, b)) in
+    let P : List ℕ → Type 0 = λ l. new ≡ filter (λ s. get_or old s 0 == 1) l in
+    subst P (sym (take_more steps i 0 lt)) (
+    is ∙ ap (λ n. told ++ cond (n == 1) (d ∷ []) []) same
+    ∙ ap (λ l. l ++ cond (get_or old d 0 == 1) (d ∷ []) []) told_is
+    ∙ sym (filter-append (λ s. get_or old s 0 == 1) (take i steps) (d ∷ []))
+    )
 
 -- an edge producer that was open ends
 module _ (plan : PlanView) (ended : List ℕ) (step s : ℕ) where
@@ -98,15 +113,6 @@ counts_after plan ended step steps old new exact counts fresh low dec = record {
   ];
 }
 
-decide_at : (x y : ℕ) (xs : List ℕ) (b : Bool) → (x == y) ≡ b → (Contains xs y) ⊎ (Contains xs y → ⊥) → (Contains (x ∷ xs) y) ⊎ (Contains (x ∷ xs) y → ⊥)
-decide_at x y xs true q w = inl (subst (Contains (x ∷ xs)) (eqb-true x y q) (in_head x xs))
-decide_at x y xs false q (inl c) = inl (let inside : c.0 < length xs = c.1 in (suc c.0, omega arith, c.2))
-decide_at x y xs false q (inr n) = inr (λ c. elim (in_cases x xs y c) [ inl e ↦ eqb-false x y q e | inr t ↦ n t ])
-
-pub decide : (xs : List ℕ) (y : ℕ) → (Contains xs y) ⊎ (Contains xs y → ⊥)
-decide [] y = inr (λ c. in_none y c)
-decide (x ∷ xs) y = decide_at x y xs (x == y) refl (decide xs y)
-
 -- a list with nothing in it
 empty_of : (xs : List ℕ) → ((x : ℕ) → Contains xs x → ⊥) → length xs ≡ 0
 empty_of [] none = refl
@@ -155,20 +161,6 @@ leads_within plan p s e = elim (cases_lt s (length plan.steps)) [
   | inl l ↦ l
   | inr l ↦ let n = e.consumer_needed in absurd (in_none n.leads.0.1.production (subst (λ ps. Contains ps n.leads.0.1.production) (at_past produced plan.steps s l) n.leads.0.1.declared))
 ]
-
--- what an end tells, where it was made of the counts and the dependents
-pub told_ok : {E : Type 0} (plan : PlanView) (step : ℕ) (steps lent counts now : List ℕ) (r : Result (List ℕ) E)
-    → steps ≡ lent → ((s : ℕ) → Contains lent s ↔ Leads plan step s) → counts ≡ now
-    → IfOk r (λ told. told ≡ filter (λ s. get_or counts s 0 == 1) steps)
-    → IfOk r (λ told. (list : List ℕ) → AreCounts plan list now → (Contains list step → ⊥) → (s : ℕ) → Contains told s ↔ IsReleasedBy plan list step s)
-told_ok plan step steps lent counts now (Ok told) same exact view is =
-    λ list are fresh. told_of plan list step steps counts told (subst (λ l. (s : ℕ) → Contains l s ↔ Leads plan step s) (sym same) exact) (λ s l. leads_within plan step s l) (subst (AreCounts plan list) (sym view) are) fresh is
-told_ok plan step steps lent counts now (Err e) same exact view is = tt
-
-pub rising_ok : {E : Type 0} (steps lent counts : List ℕ) (r : Result (List ℕ) E) → steps ≡ lent → IsStrictlyIncreasing lent
-    → IfOk r (λ told. told ≡ filter (λ s. get_or counts s 0 == 1) steps) → IfOk r IsStrictlyIncreasing
-rising_ok steps lent counts (Ok told) same up is = subst IsStrictlyIncreasing (sym is) (IsStrictlyIncreasing-filter (λ s. get_or counts s 0 == 1) steps (subst IsStrictlyIncreasing (sym same) up))
-rising_ok steps lent counts (Err e) same up is = tt
 
 -- the number of a property is that of a list of it
 pub count_of : (P : ℕ → Type 0) (n : ℕ) (xs : List ℕ) → HowMany P n → IsStrictlyIncreasing xs → ((s : ℕ) → Contains xs s ↔ P s) → length xs ≡ n

@@ -1,4 +1,4 @@
-ghost use Rattle.std.specs.Prelude.{◌≡◌, ◌==◌, ◌+◌, ◌-◌, ◌<◌, ◌≤◌, ℕ, List, [], ◌∷◌, ◌++◌, length, slice_index_or, Contains, IfOk, OnOk, OnErr, ◌↔◌, vec_capacity};
+ghost use Rattle.std.specs.Prelude.{◌≡◌, ◌==◌, ◌+◌, ◌-◌, ◌<◌, ◌≤◌, ℕ, List, [], ◌∷◌, ◌++◌, length, slice_index_or, Contains, IfOk, OnOk, OnErr, ◌↔◌, cond, vec_len, vec_capacity};
 ghost use Rattle.std.specs.List.{filter};
 ghost use Rattle.std.specs.List.Sorted.{IsStrictlyIncreasing};
 ghost use Rattle.chain_builder.specs.Edge.{HasEdge};
@@ -146,23 +146,25 @@ fn lower<L: Ledger>(
     ensures cost { steps.new ≡ steps.old + length dependents.now }
 {
     for step in dependents {
-        if lower_one(counts, *step) {
-            told.push_reserved(*step);
-        }
+        lower_one(counts, *step, told);
         steps.take();
     }
 }
 
-/// Lowers the count of the step by one, and tells whether it was at one.
-fn lower_one(counts: &mut Vec<u32>, step: u32) -> bool
+/// Lowers the count of the step by one, and puts the step behind the told ones where it was at one.
+fn lower_one(counts: &mut Vec<u32>, step: u32, told: &mut Vec<u32>)
+    requires { vec_len told.old < vec_capacity told.old }
     ensures lowered { AreLowered (step ∷ []) counts.old.items counts.new.items }
-    ensures last { result ≡ (slice_index_or counts.old.items step 0 == 1) }
+    ensures told { told.new.items ≡ told.old.items ++ cond (slice_index_or counts.old.items step 0 == 1) (step ∷ []) [] }
+    ensures few { vec_len told.new ≤ vec_len told.old + 1 }
+    ensures room { vec_capacity told.new ≡ vec_capacity told.old }
 {
     let at = step as usize;
     if at >= counts.len() {
-        return false;
+        return;
     }
-    let count = counts[at];
-    counts[at] = count.saturating_sub(1);
-    count == 1
+    if counts[at] == 1 {
+        told.push_reserved(step);
+    }
+    counts[at] = counts[at].saturating_sub(1);
 }

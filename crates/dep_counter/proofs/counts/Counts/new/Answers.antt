@@ -1,4 +1,4 @@
-use Rattle.std.proofs.Common.{◌≡◌, ℕ, List, length, arith, ap}
+use Rattle.std.proofs.Common.{length, arith, ap}
 use Rattle.dep_counter.specs.Counting.{Leads}
 use Rattle.dep_counter.proofs.Lowering.{one_more, fresh_counts}
 use Rattle.dep_counter.proofs.counts.Counts.new.Goals as goal
