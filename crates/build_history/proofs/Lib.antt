@@ -1,3 +1,3 @@
-pub mod Effective
-pub mod Runs
-pub mod Snoc
+pub mod CallerLemmas
+mod Effective
+mod Pieces

@@ -1,6 +1,10 @@
 pub mod Events
+pub mod EventText
+pub mod Follow
 pub mod Jobs
 pub mod Kinds
+pub mod Next
+pub mod ReasonText
 pub mod Recordings
 pub mod Room
 pub mod Runs

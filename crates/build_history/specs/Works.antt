@@ -2,7 +2,6 @@
 use Rattle.std.specs.Prelude.{◌≡◌, ℕ, ◌<◌, length}
 use Rattle.step_state.specs.declared.outcome.Inputs.{Inputs}
 use Rattle.step_state.specs.declared.outcome.Outcome.{Outcome}
-use Rattle.step_eval.specs.BoundedOutcome.{HasBoundedValues}
 use Rattle.build_history.specs.Jobs.{JobView, meaning_at}
 
 pub record Worked : Type 0 where
@@ -15,4 +14,3 @@ pub record Worked : Type 0 where
 pub record IsMeant (w : Worked) : Type 0 where
   pub step_in : w.step < length w.job.plan.steps
   pub meant : w.outcome ≡ meaning_at w.job w.step w.inputs.lists
-  pub bounded : HasBoundedValues w.outcome

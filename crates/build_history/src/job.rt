@@ -4,7 +4,7 @@ ghost use Rattle.chain_builder.specs.Rank.{HasRank};
 ghost use Rattle.build_history.specs.Jobs.{Fit, decl_at, body_at, is_effective};
 
 use chain_builder::Plan;
-use item_types::{Names, Same, Seq, StepDecl};
+use item_types::{Names, Phase, Same, Seq, StepDecl};
 use std::marker::Model;
 use syntax_tree::Body;
 
@@ -90,6 +90,17 @@ impl Job {
         ensures { result.now ≡ body_at self.now step }
     {
         &self.bodies.as_slice()[step as usize]
+    }
+
+    /// The phase of the step, if it has one; `None` for a number that is no step's. It takes no
+    /// memory.
+    pub fn phase(&self, step: u32) -> Option<Phase>
+        ensures { result ≡ (decl_at self.now step).phase }
+    {
+        match self.plan.steps().as_slice().get(step as usize) {
+            Some(decl) => decl.phase,
+            None => None,
+        }
     }
 
     /// Whether the step effectively produces the item. It takes no memory.

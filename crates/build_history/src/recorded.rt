@@ -1,6 +1,5 @@
 ghost use Rattle.std.specs.Prelude.{◌≡◌, ◌++◌, IfOk, OnOk};
 ghost use Rattle.std.specs.List.{flat_map};
-ghost use Rattle.build_history.specs.Jobs.{decl_at};
 ghost use Rattle.build_history.specs.Recordings.{recordings, recorded, is_of};
 
 use crate::event::Event;
@@ -37,7 +36,7 @@ fn push_recorded(
 {
     for event in events {
         if let Event::End { step, calls } = event {
-            if is_of(phase, phase_of(job, *step)) {
+            if is_of(phase, job.phase(*step)) {
                 all.push(Recording {
                     step: *step,
                     phase,
@@ -47,16 +46,6 @@ fn push_recorded(
         }
     }
     Ok(())
-}
-
-/// The phase of the step; `None` for a number that is no step's.
-fn phase_of(job: &Job, step: u32) -> Option<Phase>
-    ensures { result ≡ (decl_at job.now step).phase }
-{
-    match job.plan().steps().as_slice().get(step as usize) {
-        Some(decl) => decl.phase,
-        None => None,
-    }
 }
 
 fn is_of(phase: Phase, declared: Option<Phase>) -> bool

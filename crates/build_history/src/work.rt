@@ -1,7 +1,6 @@
 ghost use Rattle.std.specs.Prelude.{◌≡◌, ◌<◌, length, IfOk};
 ghost use Rattle.build_history.specs.Jobs.{meaning_at};
 ghost use Rattle.build_history.specs.Works.{IsMeant};
-ghost use Rattle.step_eval.specs.BoundedOutcome.{HasBoundedValues};
 
 use crate::job::Job;
 use item_types::Memory;
@@ -16,8 +15,7 @@ use step_eval::{Inputs, Outcome, eval};
 #[tactic(auto, unfolding(crate::specs::Jobs::meaning_at))]
 pub fn evaluate(alloc: Global, job: &Job, step: u32, inputs: &Inputs) -> Result<Outcome, Memory>
     requires { step < length job.now.plan.steps }
-    ensures meant { IfOk result (λ o. o ≡ meaning_at job.now step inputs.now.lists) }
-    ensures bounded { IfOk result HasBoundedValues }
+    ensures { IfOk result (λ o. o ≡ meaning_at job.now step inputs.now.lists) }
 {
     let outcome = eval(
         alloc,

@@ -9,8 +9,8 @@ use Rattle.build_history.specs.declared.event.Event.{Event}
 use Rattle.build_history.specs.declared.event.Event.TheVariants.{Start, Take, Put, End, Fail}
 use Rattle.build_history.specs.Events.{ended}
 use Rattle.build_history.specs.Jobs.{JobView}
-use Rattle.history_text.specs.EventText.{history_text, step_text}
-use Rattle.history_text.specs.ReasonText.{reason_text}
+use Rattle.build_history.specs.EventText.{history_text, step_text}
+use Rattle.build_history.specs.ReasonText.{reason_text}
 
 abbrev pub is_put : Event → Bool
 is_put (Start s) = false

@@ -1,11 +1,10 @@
 ghost use Rattle.std.specs.Prelude.{◌≡◌, ◌++◌, length, codes, string_bytes, IfOk, OnOk};
 ghost use Rattle.std.specs.Fmt.{decimal};
 ghost use Rattle.build_history.specs.Events.{ended};
-ghost use Rattle.history_text.specs.EventText.{step_text};
+ghost use Rattle.build_history.specs.EventText.{step_text};
 ghost use Rattle.build_report.specs.BuildText.{build_text, built_line, calls, failed_line, failure, last_line, puts};
 
-use build_history::{Event, History, Job};
-use history_text::{print, push_reason};
+use build_history::{Event, History, Job, print, push_reason};
 use item_types::{Memory, Text};
 use std::alloc::Global;
 use step_eval::Reason;

@@ -15,7 +15,7 @@ use Rattle.build_history.specs.declared.event.Event.{Event}
 use Rattle.build_history.specs.Jobs.{JobView}
 use Rattle.build_history.specs.Kinds.{IsFinished, IsLeastFirst}
 use Rattle.build_history.specs.Runs.{IsOneThreadRun}
-use Rattle.history_text.specs.EventText.{history_text}
+use Rattle.build_history.specs.EventText.{history_text}
 use Rattle.run_laws.specs.Named.{IsNamed}
 use Rattle.project_job.specs.JobOf.{job_of}
 use Rattle.quarkus_cli.specs.Builds.{OfBuild, built}

@@ -8,12 +8,12 @@ use Rattle.build_history.specs.Events.{step_of, events_of}
 use Rattle.build_history.specs.Jobs.{JobView}
 use Rattle.build_history.specs.Runs.{IsOneThreadRun}
 use Rattle.build_report.specs.BuildText.{build_text, failure, last_line}
-use Rattle.history_text.specs.EventText.{event_text, history_text, step_text}
+use Rattle.build_history.specs.EventText.{event_text, history_text, step_text}
 use Rattle.run_laws.specs.Lines.{line_name}
 use Rattle.run_laws.specs.Named.{IsNamed}
-use Rattle.run_laws.specs.Next.{next_of}
-use Rattle.run_laws.proofs.Names.{line_name-event}
-use Rattle.run_laws.proofs.Walks.{follow_is, follow_run, run_init, step_in}
+use Rattle.build_history.specs.Next.{next_of}
+use Rattle.run_laws.proofs.CallerLemmas.{line_name-event}
+use Rattle.build_history.proofs.CallerLemmas.{follow_is, follow_run, run_init, step_in}
 
 -- how a last line begins
 abbrev pub IsLast : List ℕ → Type 0

@@ -4,7 +4,7 @@ use Rattle.step_state.specs.declared.outcome.Reason.{Reason}
 use Rattle.build_history.specs.declared.event.Event.{Event}
 use Rattle.build_history.specs.Jobs.{JobView}
 use Rattle.build_history.specs.Kinds.{IsFinished, IsLeastFirst}
-use Rattle.history_text.specs.EventText.{history_text}
+use Rattle.build_history.specs.EventText.{history_text}
 use Rattle.build_report.specs.BuildText.{build_text, failure}
 use Rattle.ext_parser.specs.declared.project.Project.{Project}
 use Rattle.project_job.specs.JobOf.{job_of}

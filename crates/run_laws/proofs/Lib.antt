@@ -1,5 +1,6 @@
-pub mod Lines
-pub mod Names
-pub mod Next
-pub mod Once
-pub mod Walks
+pub mod CallerLemmas
+mod Kept
+mod Lines
+mod Once
+mod Plays
+mod Walks

@@ -19,11 +19,8 @@ use Rattle.build_history.specs.Jobs.{JobView, Needs, Precedes, consumes_at, mean
 use Rattle.build_history.specs.Kinds.{IsComplete, IsFailed, IsFinished, MayStart, IsLeastFirst}
 use Rattle.build_history.specs.Runs.{IsOneThreadRun}
 use Rattle.build_history.specs.Scripts.{takes_of, puts_of, kept, rest_of, opening}
-use Rattle.build_history.proofs.Runs.{run_nil}
-use Rattle.build_history.proofs.Snoc.{has_failed-append}
-use Rattle.run_laws.specs.Next.{next_of}
-use Rattle.run_laws.proofs.Next.{Begun, giving_value}
-use Rattle.run_laws.proofs.Walks.{unfailed, begun_in, follow_is, follow_run}
+use Rattle.build_history.proofs.CallerLemmas.{run_nil, has_failed-append, Begun, giving_value, unfailed, begun_in, follow_is, follow_run}
+use Rattle.build_history.specs.Next.{next_of}
 
 in_none : (x : ℕ) → Contains [] x → ⊥
 in_none x c = let inside : c.0 < 0 = c.1 in omega arith

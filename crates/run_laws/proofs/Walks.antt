@@ -1,116 +1,18 @@
 -- Walking through a run by its text.
-use Rattle.std.proofs.Common.{◌≡◌, ◌≢◌, ℕ, zero, suc, ◌<◌, ◌≤◌, ◌+◌, ◌-◌, length, List, [], ◌∷◌, ◌++◌, Contains, arith, Bool, true, false, ◌||◌, ◌&&◌, ◌==◌, cond, refl, sym, ap, ◌∙◌, subst, append_assoc, length-append, ◌⊎◌, inl, inr}
-use Rattle.std.specs.Prelude.{Option, Some, None}
-use mathlib.Core.List.{IsPrefix}
-use Rattle.std.proofs.lemmas.Bool.{eqb-true, eqb-false, eq-eqb, cases_lt}
+use Rattle.std.proofs.Common.{◌≡◌, ℕ, zero, suc, ◌<◌, ◌+◌, length, List, [], ◌∷◌, ◌++◌, arith, refl, sym, ap, ◌∙◌, subst, append_assoc}
+use Rattle.std.specs.Prelude.{Some}
 use Rattle.std.proofs.lemmas.List.{append-nil}
-use Rattle.std.proofs.lemmas.List.Elements.{filter-append}
-use Rattle.step_state.specs.declared.outcome.Reason.{Reason}
-use Rattle.chain_builder.specs.EffectiveProducer.{produced}
-use Rattle.chain_builder.specs.Lists.{list_at}
 use Rattle.build_history.specs.declared.event.Event.{Event}
-use Rattle.build_history.specs.declared.event.Event.TheVariants.{Start, Take, Put, End, Fail}
-use Rattle.build_history.specs.Events.{step_of, events_of, taken, taken_of, has_failed, is_failure}
-use Rattle.build_history.specs.Jobs.{JobView, Needs}
+use Rattle.build_history.specs.Events.{step_of, events_of}
+use Rattle.build_history.specs.EventText.{step_text, event_text, history_text}
+use Rattle.build_history.specs.Jobs.{JobView}
+use Rattle.build_history.specs.Next.{next_of}
 use Rattle.build_history.specs.Runs.{IsOneThreadRun}
-use Rattle.build_history.specs.Scripts.{script}
-use Rattle.build_history.proofs.Runs.{Owes, MayFollow, run_nil, run_snoc}
-use Rattle.history_text.specs.EventText.{step_text, event_text, history_text}
-use Rattle.run_laws.specs.Lines.{first_lines, feeds, line_name}
+use Rattle.build_history.proofs.CallerLemmas.{run_nil, step_in, follow_is, follow_run}
+use Rattle.run_laws.specs.Lines.{first_lines, feeds}
 use Rattle.run_laws.specs.Named.{IsNamed}
-use Rattle.run_laws.specs.Next.{next_of}
 use Rattle.run_laws.proofs.Lines.{first_lines_over, feeds-append}
-use Rattle.run_laws.proofs.Names.{event_begins, named_by, line_name-event}
-use Rattle.run_laws.proofs.Next.{Begun, begun, Says, Goes, next_is, next_goes}
-
-in_none : {X : Type 0} (x : X) → Contains [] x → ⊥
-in_none x c = let inside : c.0 < 0 = c.1 in omega arith
-
-at_past : {X Y : Type 0} (f : X → List Y) (xs : List X) (i : ℕ) → length xs ≤ i → list_at f xs i ≡ []
-at_past f [] i le = refl
-at_past f (x ∷ xs) zero le = absurd (omega (arith, le))
-at_past f (x ∷ xs) (suc i) le = at_past f xs i (omega (arith, le))
-
--- a needed step is one of the job's
-pub needed_in : (job : JobView) (s : ℕ) → Needs job s → s < length job.plan.steps
-needed_in job s n = elim (cases_lt s (length job.plan.steps)) [
-  | inl l ↦ l
-  | inr l ↦ absurd (in_none n.leads.0.1.production (subst (λ ps. Contains ps n.leads.0.1.production) (at_past produced job.plan.steps s l) n.leads.0.1.declared))
-]
-
-pub step_in : (job : JobView) (g : List Event) (e : Event) (k : List Event) → IsOneThreadRun job (g ++ e ∷ k) → step_of e < length job.plan.steps
-step_in job g e k run = needed_in job (step_of e) (run.needed g k e refl)
-
-nowhere : {X : Type 0} (g k : List X) (e : X) → g ++ e ∷ k ≡ [] → ⊥
-nowhere [] k e q = cc
-nowhere (x ∷ g) k e q = cc
-
-pub record HasFailure (g : List Event) : Type 0 where
-  pub before : List Event
-  pub step : ℕ
-  pub reason : Reason
-  pub after : List Event
-  pub is : g ≡ before ++ Fail step reason ∷ after
-
-later : (x : Event) (g : List Event) → HasFailure g → HasFailure (x ∷ g)
-later x g f = record { before = x ∷ f.before; step = f.step; reason = f.reason; after = f.after; is = ap (λ t. x ∷ t) f.is }
-
-pub failure_in : (g : List Event) → has_failed g ≡ true → HasFailure g
-failure_in [] q = cc
-failure_in (Start s ∷ g) q = later (Start s) g (failure_in g q)
-failure_in (Take s i vs ∷ g) q = later (Take s i vs) g (failure_in g q)
-failure_in (Put s i v ∷ g) q = later (Put s i v) g (failure_in g q)
-failure_in (End s cs ∷ g) q = later (End s cs) g (failure_in g q)
-failure_in (Fail s r ∷ g) q = record { before = []; step = s; reason = r; after = g; is = refl }
-
-unfailed_at : (job : JobView) (g : List Event) (e : Event) (k : List Event) (b : Bool) → has_failed g ≡ b → IsOneThreadRun job (g ++ e ∷ k) → has_failed g ≡ false
-unfailed_at job g e k false q run = q
-unfailed_at job g e k true q run =
-    let f = failure_in g q in
-    let whole : g ++ e ∷ k ≡ f.before ++ Fail f.step f.reason ∷ (f.after ++ e ∷ k) = ap (λ t. t ++ e ∷ k) f.is ∙ append_assoc f.before (Fail f.step f.reason ∷ f.after) (e ∷ k) in
-    absurd (nowhere f.after k e (run.failures f.before (f.after ++ e ∷ k) f.step f.reason whole))
-
-pub unfailed : (job : JobView) (g : List Event) (e : Event) (k : List Event) → IsOneThreadRun job (g ++ e ∷ k) → has_failed g ≡ false
-unfailed job g e k run = unfailed_at job g e k (has_failed g) refl run
-
-eq_refl : (n : ℕ) → (n == n) ≡ true
-eq_refl n = eq-eqb n n refl
-
-events_at : (g : List Event) (e : Event) (k : List Event) → events_of (step_of e) (g ++ e ∷ k) ≡ events_of (step_of e) g ++ e ∷ events_of (step_of e) k
-events_at g e k = rw (filter-append (λ x. step_of x == step_of e) g (e ∷ k), eq_refl (step_of e)) refl
-
-says_of : (job : JobView) (g : List Event) (e : Event) (k : List Event) → IsOneThreadRun job (g ++ e ∷ k) → Says job g e
-says_of job g (Start s) k run = tt
-says_of job g (Take s i vs) k run = run.takes g k s i vs refl
-says_of job g (Put s i v) k run = tt
-says_of job g (End s cs) k run = tt
-says_of job g (Fail s r) k run = tt
-
-owes_of : (job : JobView) (g : List Event) (e : Event) (k : List Event) → IsOneThreadRun job (g ++ e ∷ k) → Owes job g e
-owes_of job g (Start s) k run = λ p q. run.starts g k s p refl q
-owes_of job g (Take s i vs) k run = run.takes g k s i vs refl
-owes_of job g (Put s i v) k run = tt
-owes_of job g (End s cs) k run = tt
-owes_of job g (Fail s r) k run = tt
-
--- how far a step has come in a run
-pub begun_in : (job : JobView) (g : List Event) (s : ℕ) → IsOneThreadRun job g → Begun job s (events_of s g)
-begun_in job g s run = begun job s (events_of s g) (run.scripts s)
-
--- the event that follows a run in a longer run is the one that its step adds next
-pub follow_is : (job : JobView) (g : List Event) (e : Event) (k : List Event) → IsOneThreadRun job g → IsOneThreadRun job (g ++ e ∷ k) → next_of job (step_of e) (events_of (step_of e) g) g ≡ Some e
-follow_is job g e k run more =
-    let s = step_of e in
-    let P : List Event → Type 0 = λ x. IsPrefix x (script job s (taken x)) in
-    let p = subst P (events_at g e k) (more.scripts s) in
-    next_is job s g (events_of s g) e (events_of s k) (begun_in job g s run) p (says_of job g e k more)
-
--- a run and the event that follows it in a longer run are a run
-pub follow_run : (job : JobView) (g : List Event) (e : Event) (k : List Event) → IsOneThreadRun job g → IsOneThreadRun job (g ++ e ∷ k) → IsOneThreadRun job (g ++ e ∷ [])
-follow_run job g e k run more =
-    let s = step_of e in
-    let goes = next_goes job s g (events_of s g) e (begun_in job g s run) (follow_is job g e k run more) in
-    run_snoc job g e run (record { open_yet = unfailed job g e k more; of_needed = more.needed g k e refl; scripted = goes.on; owes = owes_of job g e k more })
+use Rattle.run_laws.proofs.CallerLemmas.{event_begins, named_by, line_name-event}
 
 cancel : {X : Type 0} (zs xs ys : List X) → zs ++ xs ≡ zs ++ ys → xs ≡ ys
 cancel [] xs ys q = q
@@ -184,14 +86,3 @@ one_run job h k named a b q =
     let q2 : first_lines (history_text job h ++ []) n ≡ first_lines (history_text job k) n = ap (λ t. first_lines t n) (append-nil (history_text job h) ∙ q) in
     let w = walk job [] h [] 0 n k named (run_nil job) a b refl q2 in
     sym (w.is ∙ ap (λ t. h ++ t) (no_more job w.more w.lines) ∙ append-nil h)
-
-run_front : (job : JobView) (g a b : List Event) → IsOneThreadRun job g → IsOneThreadRun job (g ++ (a ++ b)) → IsOneThreadRun job (g ++ a)
-run_front job g [] b run whole = subst (IsOneThreadRun job) (sym (append-nil g)) run
-run_front job g (e ∷ a) b run whole =
-    let run2 : IsOneThreadRun job (g ++ e ∷ []) = follow_run job g e (a ++ b) run whole in
-    let there : g ++ e ∷ (a ++ b) ≡ (g ++ e ∷ []) ++ (a ++ b) = sym (append_assoc g (e ∷ []) (a ++ b)) in
-    subst (IsOneThreadRun job) (append_assoc g (e ∷ []) a) (run_front job (g ++ e ∷ []) a b run2 (subst (IsOneThreadRun job) there whole))
-
--- a beginning of a run is a run
-pub run_init : (job : JobView) (a b : List Event) → IsOneThreadRun job (a ++ b) → IsOneThreadRun job a
-run_init job a b whole = run_front job [] a b (run_nil job) whole

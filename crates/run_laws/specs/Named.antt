@@ -1,7 +1,7 @@
 -- Names that tell steps apart in a text. This project's own.
 use Rattle.std.specs.Prelude.{ℕ, ◌≡◌, ◌<◌, ◌==◌, Bool, true, ◌||◌, ◌&&◌, not, List, [], ◌∷◌, length}
 use Rattle.build_history.specs.Jobs.{JobView}
-use Rattle.history_text.specs.EventText.{step_text}
+use Rattle.build_history.specs.EventText.{step_text}
 
 -- a text without a blank and without a line feed
 abbrev pub is_plain : List ℕ → Bool

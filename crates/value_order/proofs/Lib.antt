@@ -1,3 +1,4 @@
+pub mod CallerLemmas
 pub mod Elements
 pub mod ItemKinds
 pub mod Ranks

@@ -1,4 +1,4 @@
-use Rattle.build_history.proofs.Runs.{run_nil}
+use Rattle.build_history.proofs.CallerLemmas.{run_nil}
 use Rattle.build_history.proofs.laws.nothing_is_a_run.Goals as goal
 
 pub returns : goal.returns

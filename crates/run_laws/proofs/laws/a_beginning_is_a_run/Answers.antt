@@ -1,4 +1,4 @@
-use Rattle.run_laws.proofs.Walks.{run_init}
+use Rattle.build_history.proofs.CallerLemmas.{run_init}
 use Rattle.run_laws.proofs.laws.a_beginning_is_a_run.Goals as goal
 
 pub returns : goal.returns
