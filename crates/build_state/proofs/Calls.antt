@@ -1,9 +1,11 @@
 -- What each call makes of the value that callers see, and what the parts of a state have.
-use Rattle.std.proofs.Common.{◌≡◌, ◌≢◌, ◌↔◌, IfSome, IfNone, ℕ, ◌<◌, ◌≤◌, ◌+◌, ◌-◌, length, get_or, set, take, List, [], ◌∷◌, ◌++◌, Contains, arith, Bool, false, not, ◌==◌, cond, refl, sym, ap, ◌∙◌, subst, length-append, Option, Some, None, true}
-use Rattle.std.proofs.lemmas.List.{get_or_read, get_or_default, set-get_or, length-take-le}
-use Rattle.std.proofs.lemmas.List.Elements.{Contains-get_or}
+use Rattle.std.proofs.Common.{◌≡◌, ◌≢◌, ◌↔◌, IfSome, IfNone, ℕ, ◌<◌, ◌≤◌, ◌+◌, ◌-◌, length, get_or, set, take, List, [], ◌∷◌, ◌++◌, Contains, All, ◌⊎◌, inl, inr, arith, Bool, false, not, ◌==◌, cond, refl, sym, ap, ◌∙◌, subst, length-append, Option, Some, None, true}
+use Rattle.std.proofs.lemmas.Bool.{cases_lt}
+use Rattle.std.proofs.lemmas.List.{get_or_past, get_or_read, get_or_default, set-get_or, length-take-le}
+use Rattle.std.proofs.lemmas.List.Elements.{Contains-get_or, All-weaker, All-contains_itself}
 use Rattle.std.proofs.lemmas.List.Filters.{length-filter_both}
 use Rattle.dep_counter.specs.Counting.{AreCounts, IsReleasedBy, HowMany, IsOpen}
+use Rattle.dep_counter.proofs.CallerLemmas.{decide}
 use Rattle.item_types.specs.Numbered.{IsNumbered}
 use Rattle.item_types.specs.declared.decl.Names.{Names}
 use Rattle.item_types.specs.declared.step.Consume.{Consume}
@@ -18,33 +20,36 @@ use Rattle.build_history.specs.Events.{step_of, events_of, put_in, ended}
 use Rattle.build_history.specs.Jobs.{JobView, Fit, no_decl, decl_at, consumes_at}
 use Rattle.build_history.specs.Room.{Kept}
 use Rattle.build_history.specs.Scripts.{takes_of, puts_of, kept, opening}
-use Rattle.step_slots.specs.declared.mark.Mark.{Mark}
-use Rattle.step_slots.specs.declared.mark.Mark.TheVariants.{Waiting, Released, Taking, Ready, Putting, Failing, Ended, Failed}
-use Rattle.step_slots.specs.declared.slot.Slot.{Slot}
-use Rattle.step_slots.specs.Built.{Built, mark_at, is_halted, moved, no_consume, mark_after, next_item, next_values, with_take, took, HasEnded}
-use Rattle.step_slots.specs.Marks.{slot_at}
-use Rattle.step_slots.specs.Parts.{AreReleased}
-use Rattle.step_set.specs.Members.{IsWithAll, HasSame}
+use Rattle.build_state.specs.declared.mark.Mark.{Mark}
+use Rattle.build_state.specs.declared.mark.Mark.TheVariants.{Unneeded, Waiting, Released, Taking, Ready, Putting, Failing, Ended, Failed}
+use Rattle.build_state.specs.declared.slot.Slot.{Slot}
+use Rattle.build_history.specs.Next.{no_consume}
+use Rattle.build_state.specs.Built.{Built, mark_at, is_halted, moved, mark_after, next_item, next_values, with_take, took, HasEnded}
+use Rattle.build_state.specs.Marks.{no_slot, slot_at, IsState}
+use Rattle.build_state.specs.Parts.{AreReleased}
+use Rattle.step_set.specs.Members.{Has, IsWithAll}
 use Rattle.recorder_proxy.specs.declared.call.Call.{Call}
 use Rattle.step_state.specs.declared.outcome.Reason.{Reason}
-use Rattle.step_slots.specs.Rooms.{IsKeyed, IsSmall, IsRoomier}
-use Rattle.step_slots.specs.Sound.{IsSound, IsReleasedSet}
-use Rattle.step_slots.specs.Stages.{Shows}
-use Rattle.step_slots.specs.declared.mark.Stage.TheVariants as stage
-use Rattle.step_slots.proofs.Calls.{on_view, putting_has, one_event, take_call, fail_call, end_call, end_apart}
-use Rattle.step_slots.proofs.Events.{at_mark}
-use Rattle.step_slots.proofs.Sound.{more_sound}
-use Rattle.step_slots.proofs.Steps.{slot_read}
+use Rattle.build_state.specs.Rooms.{IsKeyed, IsSmall, IsRoomier}
+use Rattle.build_state.specs.Sound.{IsSound, IsReleasedSet}
+use Rattle.build_state.specs.Stages.{Shows}
+use Rattle.build_state.specs.declared.mark.Stage.TheVariants as stage
+use Rattle.build_state.proofs.Moves.{on_view, putting_has, one_event, take_call, fail_call, end_call}
+use Rattle.build_state.proofs.Events.{at_mark}
+use Rattle.build_state.proofs.End.{waits_at}
+use Rattle.build_state.proofs.Finish.{needed_in}
+use Rattle.build_state.proofs.Sound.{more_sound, putting_open}
+use Rattle.build_state.proofs.Steps.{slot_read}
 
 -- the slot that is read is the step's
-pub here_is : (v b : Built) → v ≡ b → (h : Kept) (store : Stored) (counts members : List ℕ) (failed : Bool)
+pub here_is : (v b : Built) → v ≡ b → (h : Kept) (store : Stored) (counts : List ℕ) (members : List Bool) (failed : Bool)
     → IsSound v.job h store counts members v.slots failed → (s : ℕ) → s < length b.job.plan.steps → (t : Slot) → t ≡ get_or v.slots s t → slot_at v.slots s ≡ t
 here_is v b e h store counts members failed is s lt t slot =
     let lt' : s < length v.job.plan.steps = on_view v b e (λ x. s < length x.job.plan.steps) lt in
     slot_read v.slots s t (omega (arith, lt', is.many)) slot
 
 -- the put that is next can be put, and there is room for it
-pub put_has : (v b : Built) → v ≡ b → (h : Kept) (store : Stored) (counts members : List ℕ) (failed : Bool)
+pub put_has : (v b : Built) → v ≡ b → (h : Kept) (store : Stored) (counts : List ℕ) (members : List Bool) (failed : Bool)
     → IsSound v.job h store counts members v.slots failed → (s : ℕ) → s < length b.job.plan.steps → (t : Slot) → t ≡ get_or v.slots s t
     → (p : ℕ × Value) (rest : List (ℕ × Value)) → t.left ≡ p ∷ rest
     → (1 ≤ h.spare) × (1 ≤ spare_of store p.0) × IsKeyed store.names p × IsSmall p
@@ -59,7 +64,7 @@ many_puts s [] = refl
 many_puts s (p ∷ ps) = omega (arith, many_puts s ps)
 
 -- the puts that are made stand in the history, after the start
-pub made_few : (v b : Built) → v ≡ b → (h : Kept) (store : Stored) (counts members : List ℕ) (failed : Bool)
+pub made_few : (v b : Built) → v ≡ b → (h : Kept) (store : Stored) (counts : List ℕ) (members : List Bool) (failed : Bool)
     → IsSound v.job h store counts members v.slots failed → (s : ℕ) → s < length b.job.plan.steps → mark_at b s ≡ Putting → (t : Slot) → t ≡ get_or v.slots s t
     → t.made + 1 ≤ length h.events
 made_few v b e h store counts members failed is s lt putting t slot =
@@ -85,7 +90,7 @@ moved_is v h slots e s t p q =
     ap f p ∙ ap g q
 
 -- what a take makes of the value that callers see
-pub took_is : (v b : Built) → v ≡ b → (h h1 h2 : Kept) (store : Stored) (counts members : List ℕ) (failed : Bool) → h.events ≡ v.history
+pub took_is : (v b : Built) → v ≡ b → (h h1 h2 : Kept) (store : Stored) (counts : List ℕ) (members : List Bool) (failed : Bool) → h.events ≡ v.history
     → IsSound v.job h store counts members v.slots failed → (s : ℕ) → s < length b.job.plan.steps
     → (r t : Slot) (d : StepDecl) (c : Consume) (m : Mark) (x y : List Value) (lists : List (List Value))
     → r ≡ get_or v.slots s r → t ≡ get_or v.slots s t → d ≡ decl_at v.job s → c ≡ get_or d.consumes (length r.inputs.lists) c
@@ -119,7 +124,7 @@ took_is v b e h h1 h2 store counts members failed same is s lt r t d c m x y lis
     ∙ ap (λ (z : Built). took z s) e
 
 -- a step that takes has takes left
-pub taking_few : (v b : Built) → v ≡ b → (h : Kept) (store : Stored) (counts members : List ℕ) (failed : Bool)
+pub taking_few : (v b : Built) → v ≡ b → (h : Kept) (store : Stored) (counts : List ℕ) (members : List Bool) (failed : Bool)
     → IsSound v.job h store counts members v.slots failed → (s : ℕ) → s < length b.job.plan.steps → mark_at b s ≡ Taking → (r : Slot) → r ≡ get_or v.slots s r
     → (d : StepDecl) → d ≡ decl_at v.job s → length r.inputs.lists < length d.consumes
 taking_few v b e h store counts members failed is s lt taking r read d decl =
@@ -140,7 +145,7 @@ next_inside job numbered fit s lt d decl c i which few =
     omega (arith, inside, ap length fit.0)
 
 -- what a take keeps, and what it makes of the value that callers see
-pub take_both : (v b : Built) → v ≡ b → (h h1 h2 : Kept) (store : Stored) (counts members : List ℕ) (failed : Bool) → h.events ≡ v.history
+pub take_both : (v b : Built) → v ≡ b → (h h1 h2 : Kept) (store : Stored) (counts : List ℕ) (members : List Bool) (failed : Bool) → h.events ≡ v.history
     → IsSound v.job h store counts members v.slots failed → (s : ℕ) → s < length b.job.plan.steps → mark_at b s ≡ Taking → is_halted b ≡ false
     → (q : PlanView) → q ≡ v.job.plan → IsNumbered q.steps q.items q.finals → Fit v.job.plan v.job.names v.job.bodies
     → (r t : Slot) (d : StepDecl) (xs : List Consume) (n : ℕ) (m : Mark) (x y : List Value) (lists : List (List Value))
@@ -178,7 +183,7 @@ roomier_refl : (store : Stored) → IsRoomier store store
 roomier_refl store = record { names = refl; values = λ item. refl; spares = λ item. omega arith }
 
 -- room that was made and isn't used
-pub spare_sound : (job : JobView) (h h2 : Kept) (store : Stored) (counts members : List ℕ) (slots : List Slot) (failed : Bool) (s : ℕ) (t : Slot) (lists : List (List Value))
+pub spare_sound : (job : JobView) (h h2 : Kept) (store : Stored) (counts : List ℕ) (members : List Bool) (slots : List Slot) (failed : Bool) (s : ℕ) (t : Slot) (lists : List (List Value))
     → IsSound job h store counts members slots failed → h2 ≡ record h { spare = h.spare + 1 } → t ≡ get_or slots s t → lists ≡ t.inputs.lists
     → IsSound job h2 store counts members (set slots s (record t { inputs = record { lists = lists } })) failed
 spare_sound job h h2 store counts members slots failed s t lists is made slot same =
@@ -187,7 +192,7 @@ spare_sound job h h2 store counts members slots failed s t lists is made slot sa
     (more_sound job h h2 store store counts members slots failed is (ap (λ (x : Kept). x.events) made) (omega (arith, spare)) (roomier_refl store))
 
 -- the failure that is kept is put
-pub fail_kept : (v b : Built) → v ≡ b → (h h2 : Kept) (store : Stored) (counts members : List ℕ) (failed : Bool) → h.events ≡ v.history
+pub fail_kept : (v b : Built) → v ≡ b → (h h2 : Kept) (store : Stored) (counts : List ℕ) (members : List Bool) (failed : Bool) → h.events ≡ v.history
     → IsSound v.job h store counts members v.slots failed → (s : ℕ) → s < length b.job.plan.steps → mark_at b s ≡ Failing → is_halted b ≡ false
     → (t : Slot) (r : Reason) (after : Option Reason) → t ≡ get_or v.slots s t → t.reason ≡ Some r → after ≡ None
     → 1 ≤ h.spare → h2 ≡ record { events = h.events ++ Fail s r ∷ []; spare = h.spare - 1 }
@@ -208,44 +213,76 @@ lowers_on q p e counts counts2 s lowered =
     let P : PlanView → Type 0 = λ z. (list : List ℕ) → AreCounts z list counts → (Contains list s → ⊥) → AreCounts z (list ++ s ∷ []) counts2 in
     subst P e lowered
 
--- the steps that an end releases weren't released
-pub told_new : (v b : Built) → v ≡ b → (h : Kept) (store : Stored) (counts members : List ℕ) (failed : Bool)
+-- the steps that an end releases are among those of the set
+pub told_in : (v b : Built) → v ≡ b → (h : Kept) (store : Stored) (counts : List ℕ) (members : List Bool) (failed : Bool)
     → IsSound v.job h store counts members v.slots failed → (s : ℕ) → s < length b.job.plan.steps → mark_at b s ≡ Putting
     → (q : PlanView) → q ≡ v.job.plan → (told xs : List ℕ) → xs ≡ told
     → ((list : List ℕ) → AreCounts q list counts → (Contains list s → ⊥) → (i : ℕ) → Contains told i ↔ IsReleasedBy q list s i)
-    → (i : ℕ) → Contains xs i → Contains members i → ⊥
-told_new v b e h store counts members failed is s lt putting q plan told xs lent tells i has =
-    end_apart v b e h store counts members failed is s lt putting told (tells_on q v.job.plan plan counts told s tells) i (subst (λ l. Contains l i) lent has)
+    → All (λ i. i < length members) xs
+told_in v b e h store counts members failed is s lt putting q plan told xs lent tells =
+    let lt' : s < length v.job.plan.steps = on_view v b e (λ x. s < length x.job.plan.steps) lt in
+    let putting' : mark_at v s ≡ Putting = on_view v b e (λ x. mark_at x s ≡ Putting) putting in
+    let fresh = putting_open v.job h.events v.slots s is.state lt' putting' in
+    let told_is = tells_on q v.job.plan plan counts told s tells (ended h.events) is.counts_are fresh in
+    All-weaker (Contains xs) (λ i. i < length members) (λ i has.
+    let r = (told_is i).0 (subst (λ l. Contains l i) lent has) in
+    let l : i < length v.job.plan.steps = needed_in v.job i r.0.consumer_needed in
+    omega (arith, l, is.many, is.roomy)) xs (All-contains_itself xs)
+
+-- the steps that an end releases waited before
+end_told : (v n : Built) (h : List Event) (s : ℕ) (told : List ℕ) → IsState v.job h v.slots → mark_at v s ≡ Putting → (Contains (ended h) s → ⊥)
+    → ((i : ℕ) → Contains told i ↔ IsReleasedBy v.job.plan (ended h) s i) → HasEnded v n s told → (i : ℕ) → Contains told i ↔ ((mark_at v i ≡ Waiting) × (mark_at n i ≡ Released))
+end_told v n h s told st putting fresh told_is after i = (
+  λ c.
+      let r = (told_is i).0 c in
+      let l : i < length v.job.plan.steps = needed_in v.job i r.0.consumer_needed in
+      let w = waits_at v.job i s (slot_at v.slots i) h (slot_at v.slots i).mark (st.each i l) r.0 fresh in
+      let other : i ≡ s → ⊥ = λ e. let z : Waiting ≡ Putting = sym w ∙ ap (λ m. mark_at v m) e ∙ putting in cc z in
+      (w, ap (λ (x : Slot). x.mark) ((after.slots i (omega (arith, l, st.many))).1 other c)),
+  λ p. elim (decide told i) [
+    | inl c ↦ c
+    | inr out ↦
+        let other : i ≡ s → ⊥ = λ e. let z : Waiting ≡ Putting = sym p.0 ∙ ap (λ m. mark_at v m) e ∙ putting in cc z in
+        absurd (elim (cases_lt i (length v.slots)) [
+          | inl l ↦ let same = (after.slots i l).2 other out in let z : Waiting ≡ Released = sym p.0 ∙ sym (ap (λ (x : Slot). x.mark) same) ∙ p.1 in cc z
+          | inr l ↦ let z : Waiting ≡ Unneeded = sym p.0 ∙ ap (λ (x : Slot). x.mark) (get_or_past v.slots i no_slot l) in cc z
+        ])
+  ],
+)
 
 -- what an end keeps, and what it makes of the value that callers see
-pub end_both : (v b : Built) → v ≡ b → (h h1 h2 : Kept) (store : Stored) (counts counts2 members more : List ℕ) (failed : Bool) → h.events ≡ v.history
+pub end_both : (v b : Built) → v ≡ b → (h h1 h2 : Kept) (store : Stored) (counts counts2 : List ℕ) (members more : List Bool) (failed : Bool) → h.events ≡ v.history
     → IsSound v.job h store counts members v.slots failed → (s : ℕ) → s < length b.job.plan.steps → mark_at b s ≡ Putting → (slot_at b.slots s).left ≡ [] → is_halted b ≡ false
     → (q q2 : PlanView) → q ≡ v.job.plan → q2 ≡ v.job.plan → (told xs ys : List ℕ) → xs ≡ told → ys ≡ told
     → ((list : List ℕ) → AreCounts q list counts → (Contains list s → ⊥) → (i : ℕ) → Contains told i ↔ IsReleasedBy q list s i)
-    → IsWithAll members xs more → ((list : List ℕ) → AreCounts q2 list counts → (Contains list s → ⊥) → AreCounts q2 (list ++ s ∷ []) counts2)
+    → length more ≡ length members → IsWithAll members xs more → ((list : List ℕ) → AreCounts q2 list counts → (Contains list s → ⊥) → AreCounts q2 (list ++ s ∷ []) counts2)
     → (t : Slot) (new : List Slot) (calls none : List Call) → t ≡ get_or v.slots s t → none ≡ [] → AreReleased ys (set v.slots s (record t { mark = Ended; calls = none })) new → calls ≡ t.calls
     → h1 ≡ record h { spare = h.spare + 1 } → h2 ≡ record { events = h1.events ++ End s calls ∷ []; spare = h1.spare - 1 }
     → IsSound v.job h2 store counts2 more new failed × HasEnded b (record { job = v.job; history = h2.events; slots = new; no_memory = v.no_memory }) s told
-end_both v b e h h1 h2 store counts counts2 members more failed same is s lt putting left go q q2 plan plan2 told xs ys lent lent2 tells with_told lowered t new calls none slot empty released calls_are made added =
+    × ((i : ℕ) → Contains told i ↔ ((mark_at b i ≡ Waiting) × ((slot_at new i).mark ≡ Released)))
+end_both v b e h h1 h2 store counts counts2 members more failed same is s lt putting left go q q2 plan plan2 told xs ys lent lent2 tells wide with_told lowered t new calls none slot empty released calls_are made added =
     let f : List Call → List Slot = λ l. set v.slots s (record t { mark = Ended; calls = l }) in
     let both = end_call v b e h h1 h2 store counts counts2 members more failed same is s lt putting left go told (tells_on q v.job.plan plan counts told s tells)
-    (subst (λ l. IsWithAll members l more) lent with_told) (lowers_on q2 v.job.plan plan2 counts counts2 s lowered)
+    wide (subst (λ l. IsWithAll members l more) lent with_told) (lowers_on q2 v.job.plan plan2 counts counts2 s lowered)
     t (f none) new calls slot (ap f empty) (subst (λ l. AreReleased l (f none) new) lent2 released) calls_are made added in
     let n : Built = record { job = v.job; history = h2.events; slots = new; no_memory = v.no_memory } in
-    (both.0, subst (λ (x : Built). HasEnded x n s told) e both.1)
+    let putting' : mark_at v s ≡ Putting = on_view v b e (λ x. mark_at x s ≡ Putting) putting in
+    let lt' : s < length v.job.plan.steps = on_view v b e (λ x. s < length x.job.plan.steps) lt in
+    let fresh = putting_open v.job h.events v.slots s is.state lt' putting' in
+    let told_is = tells_on q v.job.plan plan counts told s tells (ended h.events) is.counts_are fresh in
+    let P : Built → Type 0 = λ x. (i : ℕ) → Contains told i ↔ ((mark_at x i ≡ Waiting) × ((slot_at new i).mark ≡ Released)) in
+    (both.0, subst (λ (x : Built). HasEnded x n s told) e both.1, subst P e (end_told v n h.events s told is.state putting' fresh told_is both.1))
 
--- room that was made, and a set that has the same steps
-pub same_set_sound : (job : JobView) (h h2 : Kept) (store : Stored) (counts members members2 : List ℕ) (slots : List Slot) (failed : Bool)
-    → IsSound job h store counts members slots failed → h2 ≡ record h { spare = h.spare + 1 } → HasSame members members2
-    → IsSound job h2 store counts members2 slots failed
-same_set_sound job h h2 store counts members members2 slots failed is made same =
+-- room that was made, and counts that are as before
+pub room_made : (job : JobView) (h h2 : Kept) (store : Stored) (counts counts2 : List ℕ) (members : List Bool) (slots : List Slot) (failed : Bool)
+    → IsSound job h store counts members slots failed → h2 ≡ record h { spare = h.spare + 1 } → counts2 ≡ counts
+    → IsSound job h2 store counts2 members slots failed
+room_made job h h2 store counts counts2 members slots failed is made same =
     let spare : h2.spare ≡ h.spare + 1 = ap (λ (x : Kept). x.spare) made in
-    let more = more_sound job h h2 store store counts members slots failed is (ap (λ (x : Kept). x.events) made) (omega (arith, spare)) (roomier_refl store) in
-    let kept : IsReleasedSet members2 slots = λ i. (λ c. (is.released i).0 ((same i).0 c), λ p. (same i).1 ((is.released i).1 p)) in
-    record { many = more.many; state = more.state; room = more.room; counts_are = more.counts_are; released = kept; failed_is = more.failed_is }
+    subst (λ l. IsSound job h2 store l members slots failed) (sym same) (more_sound job h h2 store store counts members slots failed is (ap (λ (x : Kept). x.events) made) (omega (arith, spare)) (roomier_refl store))
 
 -- a step that waits shows how many of its edge producers haven't ended
-pub shows_waiting : (v b : Built) → v ≡ b → (h : Kept) (store : Stored) (counts members : List ℕ) (failed : Bool) → h.events ≡ v.history
+pub shows_waiting : (v b : Built) → v ≡ b → (h : Kept) (store : Stored) (counts : List ℕ) (members : List Bool) (failed : Bool) → h.events ≡ v.history
     → IsSound v.job h store counts members v.slots failed → (s : ℕ) → s < length b.job.plan.steps → (t : Slot) → t ≡ get_or v.slots s t → t.mark ≡ Waiting
     → (n : ℕ) → HowMany (IsOpen v.job.plan (ended h.events) s) n → Shows b s (mark_at b s) (stage.Waiting n)
 shows_waiting v b e h store counts members failed same is s lt t slot waiting n many =
@@ -259,22 +296,22 @@ shows_waiting v b e h store counts members failed same is s lt t slot waiting n 
 abbrev IsLeastReleased : Built → ℕ → Type 0
 IsLeastReleased b s = (s < length b.job.plan.steps) × (mark_at b s ≡ Released) × ((k : ℕ) → k < s → mark_at b k ≢ Released)
 
-released_least : (v b : Built) → v ≡ b → (h : Kept) (store : Stored) (counts members : List ℕ) (failed : Bool)
-    → IsSound v.job h store counts members v.slots failed → (s : ℕ) → Contains members s → ((i : ℕ) → Contains members i → s ≤ i) → IsLeastReleased b s
+released_least : (v b : Built) → v ≡ b → (h : Kept) (store : Stored) (counts : List ℕ) (members : List Bool) (failed : Bool)
+    → IsSound v.job h store counts members v.slots failed → (s : ℕ) → Has members s → ((i : ℕ) → Has members i → s ≤ i) → IsLeastReleased b s
 released_least v b e h store counts members failed is s has least =
     let p = (is.released s).0 has in
     subst (λ (x : Built). IsLeastReleased x s) e (omega (arith, p.0, is.many), p.1, λ k lt q. omega (arith, lt, least k ((is.released k).1 (omega (arith, lt, p.0), q))))
 
 -- the least of the set is the least step that is released
-pub least_some : (v b : Built) → v ≡ b → (h : Kept) (store : Stored) (counts members : List ℕ) (failed : Bool)
-    → IsSound v.job h store counts members v.slots failed → (o : Option ℕ) → IfSome o (λ x. Contains members x) → IfSome o (λ x. (i : ℕ) → Contains members i → x ≤ i)
+pub least_some : (v b : Built) → v ≡ b → (h : Kept) (store : Stored) (counts : List ℕ) (members : List Bool) (failed : Bool)
+    → IsSound v.job h store counts members v.slots failed → (o : Option ℕ) → IfSome o (λ x. Has members x) → IfSome o (λ x. (i : ℕ) → Has members i → x ≤ i)
     → IfSome o (λ s. (s < length b.job.plan.steps) × (mark_at b s ≡ Released) × ((k : ℕ) → k < s → mark_at b k ≢ Released))
 least_some v b e h store counts members failed is (Some s) has least = released_least v b e h store counts members failed is s has least
 least_some v b e h store counts members failed is None has least = tt
 
 -- where the set has none, no step is released
-pub least_none : (v b : Built) → v ≡ b → (h : Kept) (store : Stored) (counts members : List ℕ) (failed : Bool)
-    → IsSound v.job h store counts members v.slots failed → (o : Option ℕ) → IfNone o ((i : ℕ) → Contains members i → ⊥)
+pub least_none : (v b : Built) → v ≡ b → (h : Kept) (store : Stored) (counts : List ℕ) (members : List Bool) (failed : Bool)
+    → IsSound v.job h store counts members v.slots failed → (o : Option ℕ) → IfNone o ((i : ℕ) → Has members i → ⊥)
     → IfNone o ((k : ℕ) → k < length b.job.plan.steps → mark_at b k ≢ Released)
 least_none v b e h store counts members failed is (Some s) none = tt
 least_none v b e h store counts members failed is None none =

@@ -9,15 +9,15 @@ use Rattle.build_history.specs.declared.event.Event.TheVariants.{Start}
 use Rattle.build_history.specs.Events.{events_of, has_failed}
 use Rattle.build_history.specs.Jobs.{JobView, consumes_at}
 use Rattle.build_history.specs.Kinds.{IsFinished, IsLeastFirst}
-use Rattle.step_slots.specs.declared.mark.Mark.{Mark}
-use Rattle.step_slots.specs.declared.mark.Mark.TheVariants.{Unneeded, Waiting, Released, Taking, Ready, Putting, Failing, Ended, Failed}
-use Rattle.step_slots.specs.declared.slot.Slot.{Slot}
-use Rattle.step_slots.specs.Built.{Built, mark_at, is_halted, mark_after, started}
-use Rattle.step_slots.specs.Busy.{is_started, is_busy, open_at}
-use Rattle.step_slots.specs.Marks.{no_slot, slot_at, IsState}
-use Rattle.step_slots.proofs.Finish.{idle_finished, failed_finished}
-use Rattle.step_slots.proofs.Rooms.{sum_same}
-use Rattle.step_slots.proofs.Steps.{failed_more}
+use Rattle.build_state.specs.declared.mark.Mark.{Mark}
+use Rattle.build_state.specs.declared.mark.Mark.TheVariants.{Unneeded, Waiting, Released, Taking, Ready, Putting, Failing, Ended, Failed}
+use Rattle.build_state.specs.declared.slot.Slot.{Slot}
+use Rattle.build_state.specs.Built.{Built, mark_at, is_halted, mark_after, started}
+use Rattle.build_state.specs.Busy.{is_started, is_busy, open_at}
+use Rattle.build_state.specs.Marks.{no_slot, slot_at, IsState}
+use Rattle.build_state.proofs.Finish.{idle_finished, failed_finished}
+use Rattle.build_state.proofs.Rooms.{sum_same}
+use Rattle.build_state.proofs.Steps.{failed_more}
 use Rattle.build_state.specs.Going.{GoesOn, Drains}
 use Rattle.build_state.specs.Turns.{IsOver, IsTurn, GoesInTurn}
 use Rattle.build_state.proofs.Going.{open_in, started_on, closed_started, fewer}

@@ -12,16 +12,16 @@ use Rattle.build_history.specs.declared.event.Event.TheVariants.{Start, Put, End
 use Rattle.build_history.specs.Events.{step_of, events_of, is_failure}
 use Rattle.build_history.specs.Jobs.{JobView, Needs, consumes_at}
 use Rattle.build_history.specs.Kinds.{MayStart}
-use Rattle.build_history.proofs.Snoc.{events_of-other}
-use Rattle.dep_counter.proofs.Lowering.{decide}
-use Rattle.step_slots.specs.declared.mark.Mark.{Mark}
-use Rattle.step_slots.specs.declared.mark.Mark.TheVariants.{Unneeded, Waiting, Released, Taking, Ready, Putting, Failing, Ended, Failed}
-use Rattle.step_slots.specs.declared.slot.Slot.{Slot}
-use Rattle.step_slots.specs.Built.{Built, mark_at, is_halted, moved, took, with_take, settled, evaluated, put_one, failed_with, HasEnded}
-use Rattle.step_slots.specs.Busy.{is_started, open_at}
-use Rattle.step_slots.specs.Marks.{no_slot, slot_at, AtMark, IsState}
-use Rattle.step_slots.proofs.Rooms.{sum_same}
-use Rattle.step_slots.proofs.Steps.{failed_more}
+use Rattle.build_history.proofs.CallerLemmas.{events_of-other}
+use Rattle.dep_counter.proofs.CallerLemmas.{decide}
+use Rattle.build_state.specs.declared.mark.Mark.{Mark}
+use Rattle.build_state.specs.declared.mark.Mark.TheVariants.{Unneeded, Waiting, Released, Taking, Ready, Putting, Failing, Ended, Failed}
+use Rattle.build_state.specs.declared.slot.Slot.{Slot}
+use Rattle.build_state.specs.Built.{Built, mark_at, is_halted, moved, took, with_take, settled, evaluated, put_one, failed_with, HasEnded}
+use Rattle.build_state.specs.Busy.{is_started, open_at}
+use Rattle.build_state.specs.Marks.{no_slot, slot_at, AtMark, IsState}
+use Rattle.build_state.proofs.Rooms.{sum_same}
+use Rattle.build_state.proofs.Steps.{failed_more}
 use Rattle.build_state.specs.Going.{IsLaterOf, StaysOrReleases, GoesOn}
 use Rattle.build_state.proofs.Standing.{may_in}
 

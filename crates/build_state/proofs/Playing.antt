@@ -5,10 +5,10 @@ use Rattle.std.proofs.lemmas.List.{take_more, take_all}
 use Rattle.item_types.specs.declared.value.Value.{Value}
 use Rattle.step_state.specs.declared.outcome.Reason.{Reason}
 use Rattle.build_history.specs.Jobs.{JobView}
-use Rattle.step_slots.specs.declared.mark.Mark.TheVariants.{Failing}
-use Rattle.step_slots.specs.Built.{Built, mark_at, put_one, failed_with}
-use Rattle.step_slots.specs.Marks.{slot_at, IsState}
-use Rattle.step_slots.specs.Parts.{AreOpen}
+use Rattle.build_state.specs.declared.mark.Mark.TheVariants.{Failing}
+use Rattle.build_state.specs.Built.{Built, mark_at, put_one, failed_with}
+use Rattle.build_state.specs.Marks.{slot_at, IsState}
+use Rattle.build_state.specs.Parts.{AreOpen}
 use Rattle.build_state.specs.declared.act.Act.{Act}
 use Rattle.build_state.specs.Plays.{Acts, Plays, IsPlayed}
 use Rattle.build_state.specs.Turns.{GoesInTurn}

@@ -8,13 +8,13 @@ use Rattle.build_history.specs.Events.{step_of, events_of, has_failed, is_failur
 use Rattle.build_history.specs.Jobs.{JobView, Needs}
 use Rattle.build_history.specs.Kinds.{MayStart}
 use Rattle.build_history.specs.Scripts.{puts_of, kept, opening}
-use Rattle.build_history.proofs.Snoc.{has_failed-append}
-use Rattle.step_slots.specs.declared.mark.Mark.{Mark}
-use Rattle.step_slots.specs.declared.mark.Mark.TheVariants.{Unneeded, Waiting, Released, Taking, Ready, Putting, Failing, Ended, Failed}
-use Rattle.step_slots.specs.declared.slot.Slot.{Slot}
-use Rattle.step_slots.specs.Busy.{is_started}
-use Rattle.step_slots.specs.Marks.{slot_at, AtMark, IsState}
-use Rattle.step_slots.proofs.Finish.{needed_in, has_ended}
+use Rattle.build_history.proofs.CallerLemmas.{has_failed-append}
+use Rattle.build_state.specs.declared.mark.Mark.{Mark}
+use Rattle.build_state.specs.declared.mark.Mark.TheVariants.{Unneeded, Waiting, Released, Taking, Ready, Putting, Failing, Ended, Failed}
+use Rattle.build_state.specs.declared.slot.Slot.{Slot}
+use Rattle.build_state.specs.Busy.{is_started}
+use Rattle.build_state.specs.Marks.{slot_at, AtMark, IsState}
+use Rattle.build_state.proofs.Finish.{needed_in, has_ended}
 use Rattle.build_state.specs.Turns.{IsOver}
 
 -- an event of the step, and where it stands

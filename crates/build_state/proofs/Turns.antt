@@ -9,7 +9,7 @@ use Rattle.build_history.specs.declared.event.Event.TheVariants.{Start}
 use Rattle.build_history.specs.Events.{step_of, events_of, ended, end_of}
 use Rattle.build_history.specs.Jobs.{JobView}
 use Rattle.build_history.specs.Kinds.{MayStart, IsLeastFirst}
-use Rattle.build_history.proofs.Snoc.{snoc_split, nowhere, events_of-same, events_of-other}
+use Rattle.build_history.proofs.CallerLemmas.{snoc_split, nowhere, events_of-same, events_of-other}
 use Rattle.build_state.specs.Going.{IsLaterOf}
 use Rattle.build_state.specs.Turns.{IsOver, IsTurn, GoesInTurn}
 

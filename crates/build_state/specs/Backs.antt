@@ -3,7 +3,7 @@ use Rattle.std.specs.Prelude.{◌≡◌}
 use Rattle.build_history.specs.Works.{Worked}
 use Rattle.build_state.specs.declared.state.HandIn.{HandIn}
 use Rattle.build_state.specs.declared.state.HandIn.TheVariants.{Foreign, Memory}
-use Rattle.step_slots.specs.Built.{Built, Fits}
+use Rattle.build_state.specs.Built.{Built, Fits}
 
 -- as foreign where it doesn't fit, and for want of memory where it does
 abbrev pub IsBack : Built → Worked → HandIn → Type 0

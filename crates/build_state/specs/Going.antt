@@ -5,8 +5,8 @@ use mathlib.Core.List.{IsPrefix}
 use Rattle.build_history.specs.declared.event.Event.{Event}
 use Rattle.build_history.specs.declared.event.Event.TheVariants.{Start}
 use Rattle.build_history.specs.Events.{step_of}
-use Rattle.step_slots.specs.declared.mark.Mark.TheVariants.{Waiting, Released}
-use Rattle.step_slots.specs.Built.{Built, mark_at}
+use Rattle.build_state.specs.declared.mark.Mark.TheVariants.{Waiting, Released}
+use Rattle.build_state.specs.Built.{Built, mark_at}
 use Rattle.build_state.specs.Turns.{GoesInTurn}
 
 -- an event of the step that isn't its start

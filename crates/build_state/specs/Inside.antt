@@ -1,7 +1,7 @@
 -- A build state from the inside. This project's own.
 use Rattle.build_state.specs.declared.state.BuildState.TheInside.{Inside}
-use Rattle.step_slots.specs.Built.{Built}
-use Rattle.step_slots.specs.Sound.{IsSound}
+use Rattle.build_state.specs.Built.{Built}
+use Rattle.build_state.specs.Sound.{IsSound}
 
 abbrev pub built_view : Inside → Built
 built_view s = record { job = s.job.now; history = s.history.events; slots = s.slots.items; no_memory = s.no_memory }

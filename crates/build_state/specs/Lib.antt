@@ -1,5 +1,14 @@
 pub mod Backs
+pub mod Built
+pub mod Busy
 pub mod Going
 pub mod Inside
+pub mod Keeping
+pub mod Marks
+pub mod Parts
 pub mod Plays
+pub mod Rooms
+pub mod Sound
+pub mod Stages
 pub mod Turns
+pub mod Twins

@@ -5,10 +5,10 @@ use Rattle.item_types.specs.declared.value.Value.{Value}
 use Rattle.step_state.specs.declared.outcome.Reason.{Reason}
 use Rattle.build_history.specs.declared.event.Event.{Event}
 use Rattle.build_history.specs.Jobs.{JobView, meaning_at}
-use Rattle.step_slots.specs.declared.mark.Mark.TheVariants.{Released, Taking, Ready, Putting, Failing}
-use Rattle.step_slots.specs.Built.{Built, mark_at, is_halted, started, took, evaluated, put_one, failed_with, HasEnded}
-use Rattle.step_slots.specs.Marks.{slot_at, IsState}
-use Rattle.step_slots.specs.Parts.{AreOpen}
+use Rattle.build_state.specs.declared.mark.Mark.TheVariants.{Released, Taking, Ready, Putting, Failing}
+use Rattle.build_state.specs.Built.{Built, mark_at, is_halted, started, took, evaluated, put_one, failed_with, HasEnded}
+use Rattle.build_state.specs.Marks.{slot_at, IsState}
+use Rattle.build_state.specs.Parts.{AreOpen}
 use Rattle.build_state.specs.declared.act.Act.{Act}
 use Rattle.build_state.specs.declared.act.Act.TheVariants.{Claim, Take, Eval, Put, End, Fail}
 use Rattle.build_state.specs.Turns.{GoesInTurn}

@@ -1,10 +1,10 @@
 ghost use Rattle.std.specs.Prelude.{◌≡◌};
-ghost use Rattle.step_slots.specs.Busy.{is_started as started};
+ghost use Rattle.build_state.specs.Busy.{is_started as started};
 
+use crate::mark::Mark;
 use crate::state::BuildState;
 use item_types::Memory;
 use std::alloc::Global;
-use step_slots::Mark;
 
 impl<'j> BuildState<'j> {
     ghost use Rattle.std.specs.Prelude.{◌≡◌, ◌<◌, ◌^◌, ◌⊎◌, [], ℕ, true, false, length, OnOk};
@@ -12,9 +12,9 @@ impl<'j> BuildState<'j> {
     ghost use Rattle.chain_builder.specs.Rank.{HasRank};
     ghost use Rattle.build_history.specs.Events.{has_failed};
     ghost use Rattle.build_history.specs.Kinds.{IsFinished, IsLeastFirst};
-    ghost use Rattle.step_slots.specs.Built.{mark_at};
-    ghost use Rattle.step_slots.specs.Busy.{is_started};
-    ghost use Rattle.step_slots.specs.Marks.{IsState};
+    ghost use Rattle.build_state.specs.Built.{mark_at};
+    ghost use Rattle.build_state.specs.Busy.{is_started};
+    ghost use Rattle.build_state.specs.Marks.{IsState};
     ghost use Rattle.build_state.specs.Going.{Drains};
     ghost use Rattle.build_state.specs.Turns.{GoesInTurn};
 
@@ -72,9 +72,9 @@ impl<'j> BuildState<'j> {
         Ok(())
     }
 
-    /// A law: the history is a run of the job, each slot is what it says, and the steps have
-    /// ranks. It does nothing.
-    pub(crate) fn stands(&self)
+    /// A law: the history is a one-thread run of the job, each step's slot is exactly what the
+    /// history says of it, and the job's steps have ranks. It does nothing.
+    pub fn stands(&self)
         ensures state { IsState self.now.job self.now.history self.now.slots }
         ensures ranked { HasRank self.now.job.plan.steps self.now.job.plan.finals }
         ensures few { length self.now.job.plan.steps < 2 ^ 32 }

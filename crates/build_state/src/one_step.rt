@@ -1,15 +1,15 @@
+use crate::mark::Mark;
 use crate::state::BuildState;
 use build_history::evaluate;
 use item_types::Memory;
 use std::alloc::Global;
-use step_slots::Mark;
 
 impl<'j> BuildState<'j> {
     ghost use Rattle.std.specs.Prelude.{◌≡◌, ◌≢◌, ◌<◌, ◌⊎◌, [], true, false, length, OnOk, OnErr};
     ghost use Rattle.build_history.specs.Jobs.{meaning_at};
-    ghost use Rattle.step_slots.specs.Built.{mark_at, is_halted, evaluated};
-    ghost use Rattle.step_slots.specs.Busy.{is_started, open_at};
-    ghost use Rattle.step_slots.specs.Marks.{slot_at};
+    ghost use Rattle.build_state.specs.Built.{mark_at, is_halted, evaluated};
+    ghost use Rattle.build_state.specs.Busy.{is_started, open_at};
+    ghost use Rattle.build_state.specs.Marks.{slot_at};
     ghost use Rattle.build_state.specs.Going.{GoesOn};
 
     /// Runs what is left of the step, to its end or its failure.

@@ -2,16 +2,16 @@ ghost use Rattle.std.specs.Prelude.{◌≡◌};
 ghost use Rattle.build_state.specs.Plays.{act_step};
 
 use crate::act::Act;
+use crate::mark::Mark;
 use crate::state::BuildState;
 use build_history::Job;
 use item_types::Memory;
 use std::alloc::Global;
-use step_slots::Mark;
 
 impl<'j> BuildState<'j> {
     ghost use Rattle.std.specs.Prelude.{◌≡◌, ◌↔◌, ◌<◌, length, IfOk, OnOk, OnErr, IsTrue};
     ghost use Rattle.build_history.specs.Kinds.{IsFinished};
-    ghost use Rattle.step_slots.specs.Built.{Built};
+    ghost use Rattle.build_state.specs.Built.{Built};
     ghost use Rattle.build_state.specs.Plays.{IsOpening, IsPlayed, Plays, Acts, Holds, Stands, act_step};
 
     /// Makes the moves in order, from the opening state, and then drains the state. A move whose

@@ -1,4 +1,9 @@
-use build_history::{Event, History, Job, Work};
+use crate::kept::{prepare, settle};
+use crate::mark::{Halt, Mark, Stage};
+use crate::parts::{mark_after, open_slots, release, released_of};
+use crate::puts::Twin;
+use crate::slot::Slot;
+use build_history::{Event, History, Job, Work, meanings_are_bounded};
 use dep_counter::Counts;
 use item_store::Store;
 use item_types::{Memory, Same, Seq, copy_values};
@@ -7,9 +12,6 @@ use std::marker::Model;
 use std::mem;
 use step_eval::{Inputs, Outcome};
 use step_set::StepSet;
-use step_slots::{
-    Halt, Mark, Slot, Stage, Twin, mark_after, open_slots, prepare, release, released_of, settle,
-};
 
 /// A work that wasn't taken.
 #[derive(Drop)]
@@ -38,7 +40,7 @@ impl<'j> Model for BuildState<'j> {
     ghost use Rattle.item_types.specs.contracts.value.Value as value;
     ghost use Rattle.syntax_tree.specs.contracts.tree.Stmt as stmt;
     ghost use Rattle.std.specs.Coded.{codes};
-    ghost use Rattle.step_slots.specs.Built.{Built};
+    ghost use Rattle.build_state.specs.Built.{Built};
     ghost use Rattle.build_state.specs.Inside.{built_view, IsBuilt};
 
     ghost Value = { Built };
@@ -51,18 +53,18 @@ impl<'j> Model for BuildState<'j> {
 }
 
 impl<'j> BuildState<'j> {
-    ghost use Rattle.std.specs.Prelude.{◌≡◌, ◌≢◌, ◌<◌, ◌+◌, ◌⊎◌, ◌∷◌, ◌++◌, [], ℕ, List, false, true, length, OnOk, OnErr, IfOk, IfErr, IfSome, IfNone, IsTrue, ◌↔◌};
+    ghost use Rattle.std.specs.Prelude.{◌≡◌, ◌≢◌, ◌<◌, ◌+◌, ◌⊎◌, ◌∷◌, ◌++◌, [], ℕ, List, false, true, length, OnOk, OnErr, IfOk, IfErr, IfSome, IfNone, IsTrue, ◌↔◌, Contains};
     ghost use Rattle.build_history.specs.Runs.{IsOneThreadRun};
     ghost use Rattle.build_history.specs.Jobs.{meaning_at};
     ghost use Rattle.build_history.specs.Works.{IsMeant};
-    ghost use Rattle.step_eval.specs.BoundedOutcome.{HasBoundedValues};
-    ghost use Rattle.step_slots.specs.Built.{Built, mark_at, is_halted, moved, started, took, put_one, failed_with, evaluated, HasEnded, Fits};
+    ghost use Rattle.build_state.specs.Built.{Built, mark_at, is_halted, moved, started, took, put_one, failed_with, evaluated, HasEnded, Fits};
     ghost use Rattle.build_state.specs.Backs.{IsBack};
-    ghost use Rattle.step_slots.specs.Marks.{slot_at};
-    ghost use Rattle.step_slots.specs.Parts.{AreOpen};
+    ghost use Rattle.build_state.specs.Marks.{slot_at};
+    ghost use Rattle.build_state.specs.Parts.{AreOpen};
     ghost use Rattle.step_state.specs.declared.outcome.Reason.{Reason};
     ghost use Rattle.item_types.specs.declared.value.Value.{Value};
-    ghost use Rattle.step_slots.specs.Stages.{Shows, halt_of};
+    ghost use Rattle.build_state.specs.Stages.{Shows, halt_of};
+    ghost use Rattle.std.specs.List.Sorted.{IsStrictlyIncreasing};
 
     /// The job. It takes no memory.
     pub fn job(&self) -> &'j Job
@@ -288,12 +290,13 @@ impl<'j> BuildState<'j> {
         requires done { (slot_at self.old.slots step).left ≡ [] }
         requires going { is_halted self.old ≡ false }
         ensures ok { IfOk result (λ told. HasEnded self.old self.new step told) }
+        ensures released { IfOk result (λ told. (i : ℕ) → Contains told i ↔ ((mark_at self.old i ≡ Mark.Waiting) × (mark_at self.new i ≡ Mark.Released))) }
+        ensures ascending { IfOk result IsStrictlyIncreasing }
         ensures err { OnErr result (self.new ≡ self.old) }
     {
         self.history.reserve(1)?;
-        let told = self.counts.releases(alloc, self.job.plan(), step)?;
-        self.released.insert_all(told.as_slice())?;
-        self.counts.note_end_uncounted(self.job.plan(), step);
+        let told = self.counts.ended_uncounted(alloc, self.job.plan(), step)?;
+        self.released.insert_all(told.as_slice());
         let slot = &mut self.slots[step as usize];
         slot.mark = Mark::Ended;
         let calls = mem::replace(&mut slot.calls, Seq::new(alloc));
@@ -441,11 +444,13 @@ impl<'j> BuildState<'j> {
         requires ready { mark_at self.old step ≡ Mark.Ready }
         requires going { is_halted self.old ≡ false }
         requires meant { outcome ≡ meaning_at self.old.job step (slot_at self.old.slots step).inputs.lists }
-        requires bounded { HasBoundedValues outcome }
         ensures ok { OnOk result (self.new ≡ evaluated self.old step outcome) }
         ensures same { OnErr result (self.new ≡ self.old) }
         ensures back { IfErr result (λ o. o ≡ outcome) }
     {
+        // Laws: each value in a history is within the bounds, and so is what bodies make of them.
+        let _events = self.history.events().len();
+        meanings_are_bounded();
         let job = self.job;
         let (history, store) = (&mut self.history, &mut self.store);
         match prepare(alloc, job, step, &outcome, history, store) {

@@ -2,7 +2,7 @@
 use denote.Ref.{NamedLft}
 use denote.Param.Send.{IsSend, IsSync, sendable}
 use Rattle.std.proofs.Crossing.{crosses}
-use Rattle.build_state.proofs.Crossing.{state-send}
+use Rattle.build_state.proofs.CallerLemmas.{state-send}
 use Rattle.step_workers.specs.contracts.desk.Shared as shared
 use Rattle.step_workers.specs.contracts.desk.Desk as desk
 

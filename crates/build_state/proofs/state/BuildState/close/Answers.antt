@@ -1,7 +1,7 @@
 use Rattle.std.proofs.Common.{◌≡◌, ◌<◌, length, subst, sym, rules}
 use Rattle.build_history.specs.Jobs.{JobView}
-use Rattle.step_slots.specs.declared.mark.Mark.TheVariants.{Failing}
-use Rattle.step_slots.specs.Built.{mark_at}
+use Rattle.build_state.specs.declared.mark.Mark.TheVariants.{Failing}
+use Rattle.build_state.specs.Built.{mark_at}
 use Rattle.build_state.proofs.Going.{Closes, goes_trans, fail_goes, end_goes}
 use Rattle.build_state.proofs.state.BuildState.close.Goals as goal
 

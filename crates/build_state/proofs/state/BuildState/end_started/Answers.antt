@@ -1,7 +1,7 @@
 use Rattle.std.proofs.Common.{◌≡◌, ◌<◌, ◌+◌, length, true, false, subst, sym, rules}
 use Rattle.build_history.specs.Events.{has_failed}
-use Rattle.step_slots.specs.Built.{Built, mark_at}
-use Rattle.step_slots.specs.Busy.{is_started}
+use Rattle.build_state.specs.Built.{Built, mark_at}
+use Rattle.build_state.specs.Busy.{is_started}
 use Rattle.build_state.proofs.Draining.{IsEnding, ending_init, ending_in, ending_drains, ending_next, ending_skip, not_failed}
 use Rattle.build_state.proofs.state.BuildState.end_started.Goals.{then-is_started+in_ok-run_step, else-is_started}
 use Rattle.build_state.proofs.state.BuildState.end_started.Goals as goal

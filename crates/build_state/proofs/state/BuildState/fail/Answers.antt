@@ -1,5 +1,5 @@
 use Rattle.std.proofs.Common.{refl, sym, ◌∙◌}
-use Rattle.step_slots.proofs.Calls.{failing_has}
+use Rattle.build_state.proofs.Moves.{failing_has}
 use Rattle.build_state.proofs.Calls.{fail_kept}
 use Rattle.build_state.proofs.state.BuildState.fail.Goals as goal
 

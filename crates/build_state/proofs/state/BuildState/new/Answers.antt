@@ -2,8 +2,8 @@ use Rattle.std.proofs.Common.{◌≡◌, ◌<◌, ◌^◌, ◌∙◌, [], length
 use Rattle.build_history.specs.Room.{Kept}
 use Rattle.chain_builder.specs.PlanView.{PlanView}
 use Rattle.dep_counter.specs.Counting.{AreCounts}
-use Rattle.step_slots.specs.Sound.{IsReleasedSet}
-use Rattle.step_slots.proofs.Sound.{open_sound}
+use Rattle.build_state.specs.Sound.{IsReleasedSet}
+use Rattle.build_state.proofs.Sound.{open_sound}
 use Rattle.build_state.proofs.state.BuildState.new.Goals as goal
 
 pub released_of-requires : goal.released_of-requires
@@ -17,5 +17,6 @@ released_of-requires c =
 pub invariant_of-result : goal.invariant_of-result
 invariant_of-result c =
     let counts = subst (λ (z : PlanView). AreCounts z [] c.in_ok-new-2.field-0) c.plan-2.ensures.value c.in_ok-new-2.ensures in
-    let released = subst (IsReleasedSet c.in_ok-released.released) c.as_slice.ensures.value c.in_ok-released.ensures in
-    open_sound _ _ _ _ _ _ c.in_ok-slots.ensures (ap (λ (h : Kept). h.events) c.new.ensures) (c.in_ok-new.ensures.names ∙ c.names.ensures) c.in_ok-new.ensures.empty counts released
+    let released = subst (IsReleasedSet c.in_ok-released.released) c.as_slice.ensures.value c.in_ok-released.ensures.exact in
+    let roomy = c.in_ok-released.ensures.room ∙ ap length c.as_slice.ensures.value in
+    open_sound _ _ _ _ _ _ c.in_ok-slots.ensures (ap (λ (h : Kept). h.events) c.new.ensures) (c.in_ok-new.ensures.names ∙ c.names.ensures) c.in_ok-new.ensures.empty counts roomy released

@@ -2,8 +2,8 @@ use Rattle.std.proofs.Common.{◌≡◌, ◌∙◌, ◌∷◌, ◌++◌, [], len
 use Rattle.item_store.specs.Kept.{values_of}
 use Rattle.item_types.specs.Bounds.{IsBounded}
 use Rattle.item_types.specs.declared.value.Value.{Value}
-use Rattle.step_slots.specs.Rooms.{IsKeyed}
-use Rattle.step_slots.proofs.Calls.{put_call}
+use Rattle.build_state.specs.Rooms.{IsKeyed}
+use Rattle.build_state.proofs.Moves.{put_call}
 use Rattle.build_state.proofs.Calls.{put_has, made_few}
 use Rattle.build_state.proofs.state.BuildState.put.Goals as goal
 

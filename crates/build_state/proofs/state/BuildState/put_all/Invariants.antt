@@ -1,7 +1,7 @@
 use Rattle.std.proofs.Common.{◌≡◌, false, length}
-use Rattle.step_slots.specs.declared.mark.Mark.TheVariants.{Putting}
-use Rattle.step_slots.specs.Built.{mark_at, is_halted}
-use Rattle.step_slots.specs.Marks.{slot_at}
+use Rattle.build_state.specs.declared.mark.Mark.TheVariants.{Putting}
+use Rattle.build_state.specs.Built.{mark_at, is_halted}
+use Rattle.build_state.specs.Marks.{slot_at}
 use Rattle.build_state.specs.Going.{GoesOn}
 use Rattle.build_state.proofs.state.BuildState.put_all.Given as goal
 

@@ -1,5 +1,5 @@
 use Rattle.std.proofs.Common.{subst, sym}
-use Rattle.step_slots.specs.Built.{Built}
+use Rattle.build_state.specs.Built.{Built}
 use Rattle.build_state.specs.Going.{GoesOn}
 use Rattle.build_state.proofs.Going.{goes_trans, evaluated_goes}
 use Rattle.build_state.proofs.state.BuildState.run_step.Goals.{then-eq+in_ok-evaluate, else-eq}

@@ -1,7 +1,7 @@
 use Rattle.std.proofs.Common.{◌≡◌, ◌<◌, length, subst, sym, rules}
 use Rattle.build_history.specs.Jobs.{JobView}
-use Rattle.step_slots.specs.declared.mark.Mark.TheVariants.{Taking}
-use Rattle.step_slots.specs.Built.{mark_at}
+use Rattle.build_state.specs.declared.mark.Mark.TheVariants.{Taking}
+use Rattle.build_state.specs.Built.{mark_at}
 use Rattle.build_state.proofs.Going.{goes_trans, take_goes, take_going, take_started, take_less, within}
 use Rattle.build_state.proofs.state.BuildState.take_all.Goals as goal
 

@@ -1,7 +1,7 @@
 use Rattle.std.proofs.Common.{◌≡◌, true, false}
-use Rattle.step_slots.specs.Built.{mark_at, is_halted}
-use Rattle.step_slots.specs.Busy.{is_started}
-use Rattle.step_slots.specs.Marks.{IsState}
+use Rattle.build_state.specs.Built.{mark_at, is_halted}
+use Rattle.build_state.specs.Busy.{is_started}
+use Rattle.build_state.specs.Marks.{IsState}
 use Rattle.build_state.specs.Going.{GoesOn}
 use Rattle.build_state.proofs.Going.{takes_left}
 use Rattle.build_state.proofs.state.BuildState.take_all.Given as goal

@@ -1,7 +1,7 @@
 use Rattle.std.proofs.Common.{◌∙◌, ap, sym, ℕ}
 use Rattle.build_history.specs.Jobs.{meaning_at}
-use Rattle.step_slots.specs.Marks.{slot_at}
-use Rattle.step_slots.proofs.Calls.{fits_meant}
+use Rattle.build_state.specs.Marks.{slot_at}
+use Rattle.build_state.proofs.Moves.{fits_meant}
 use Rattle.build_state.proofs.state.BuildState.take_work.Goals as goal
 
 pub keep_outcome-requires-clause-meant : goal.keep_outcome-requires-clause-meant

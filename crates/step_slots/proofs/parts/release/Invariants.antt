@@ -1,6 +1,0 @@
-use Rattle.std.proofs.Common.{take}
-use Rattle.step_slots.specs.Parts.{AreReleased}
-use Rattle.step_slots.proofs.parts.release.Given as goal
-
-abbrev pub invariant-loop-step : goal.invariant-loop-step
-invariant-loop-step l = AreReleased (take l.step-index l.steps) l.initial.slots.items l.slots.items

@@ -1,6 +1,0 @@
-use Rattle.std.proofs.Common.{◌≡◌, take}
-use Rattle.step_slots.specs.Keeping.{values_kept}
-use Rattle.step_slots.proofs.puts.seconds.Given as goal
-
-abbrev pub invariant-loop-put : goal.invariant-loop-put
-invariant-loop-put l = l.again ≡ values_kept l.job l.step (take l.put-index l.puts)

@@ -1,9 +1,0 @@
-pub mod Built
-pub mod Busy
-pub mod Keeping
-pub mod Marks
-pub mod Parts
-pub mod Rooms
-pub mod Sound
-pub mod Stages
-pub mod Twins
