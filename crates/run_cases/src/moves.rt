@@ -1,7 +1,6 @@
 use crate::jobs::{ONE_FAILS, TWO_PRODUCERS, job_of};
-use build_history::Job;
+use build_history::{Job, print};
 use build_state::{Act, BuildState};
-use history_text::print;
 use item_types::{Memory, Seq};
 use recorder_proxy::Recording;
 use std::alloc::Global;

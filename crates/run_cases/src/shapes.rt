@@ -2,8 +2,7 @@ ghost use Rattle.std.specs.Prelude.{◌≤◌};
 
 use crate::jobs::job_of;
 use crate::meet::Meet;
-use build_history::{History, Job};
-use history_text::push_event;
+use build_history::{History, Job, push_event};
 use item_types::Memory;
 use std::alloc::{AllocError, Global};
 use std::sync::Wait;

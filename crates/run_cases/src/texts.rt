@@ -1,6 +1,5 @@
 use crate::jobs::{TWO_PRODUCERS, job_of};
-use build_history::Job;
-use history_text::reason_text;
+use build_history::{Job, reason_text};
 use item_types::{Memory, Phase, Proxy, Text};
 use std::alloc::Global;
 use step_eval::Reason;

@@ -1,7 +1,6 @@
 use crate::jobs::{HANDED_ON, job_of};
-use build_history::{Job, Work};
+use build_history::{Job, Work, print};
 use build_state::{Act, BuildState, HandIn, Mark};
-use history_text::print;
 use item_types::{Memory, Seq, Value};
 use std::alloc::Global;
 use step_eval::Inputs;
