@@ -1,8 +1,9 @@
 -- A fact about values that holds of a whole where it holds of the parts, and back: what the operations give has it where their operands have it.
-use Rattle.std.proofs.Common.{◌≡◌, ℕ, zero, suc, ℤ, ◌≤◌, Bool, true, false, nat_lt, ◌||◌, if◌then◌else◌, cond, Option, Some, None, unwrap_or, slice_get, List, [], ◌∷◌, ◌++◌, map, Ok, Err, refl, arith}
+use Rattle.std.proofs.Common.{◌≡◌, ℕ, zero, suc, ℤ, ◌≤◌, Bool, true, false, ◌||◌, if◌then◌else◌, cond, Option, Some, None, unwrap_or, slice_get, List, [], ◌∷◌, ◌++◌, length, map, Ok, Err, refl, arith}
 use Rattle.std.specs.List.{All}
 use Rattle.std.specs.Str.{bytes_eq}
 use Rattle.std.proofs.lemmas.Bool.Decides.{nat_tests}
+use Rattle.std.proofs.lemmas.List.{length-map}
 use Rattle.std.proofs.lemmas.List.Elements.{All-nil, All-cons, All-head, All-tail}
 use Rattle.item_types.specs.Modified.{modified_len}
 use Rattle.item_types.specs.Named.{part_of, fields_of}
@@ -32,14 +33,18 @@ abbrev IfThere : {A : Type 0} → (A → Type 0) → Option A → Type 0
 IfThere Q None = Unit {0}
 IfThere Q (Some a) = Q a
 
--- P holds of each value that is made of what it holds of, and of the parts of each value that it holds of
-pub record IsClosed (P : Value → Type 0) : Type 0 where
+-- of beans and numbers of parts at large
+abbrev pub Always : ℕ → ℕ → Type 0
+Always bean count = Unit {0}
+
+-- P holds of each value that is made of what it holds of, a bean where W holds of it and the number of its parts, and of the parts of each value that it holds of
+pub record IsClosed (W : ℕ → ℕ → Type 0) (P : Value → Type 0) : Type 0 where
   pub null : P value.Null
   pub truth : (b : Bool) → P (value.Bool b)
   pub number : (n : ℤ) → P (value.Long n)
   pub short : (t : List ℕ) → modified_len t ≤ 65535 → P (value.Str t)
   pub list : (id : NodeId) (parts : List Value) → All P parts → P (value.List id parts)
-  pub bean : (id : NodeId) (bean : ℕ) (parts : List Value) → All P parts → P (value.Bean id bean parts)
+  pub bean : (id : NodeId) (bean : ℕ) (parts : List Value) → W bean (length parts) → All P parts → P (value.Bean id bean parts)
   pub of_list : (v : Value) (id : NodeId) (parts : List Value) → out-Value v ≡ one.List id parts → P v → All P parts
   pub of_bean : (v : Value) (id : NodeId) (bean : ℕ) (parts : List Value) → out-Value v ≡ one.Bean id bean parts → P v → All P parts
 
@@ -79,7 +84,7 @@ plus_short (operand.Bool a) y = tt
 plus_short (operand.List n) y = tt
 plus_short operand.Other y = tt
 
-module _ (P : Value → Type 0) (C : IsClosed P) where
+module _ (W : ℕ → ℕ → Type 0) (P : Value → Type 0) (C : IsClosed W P) where
   pub text_has : (t : List ℕ) → Only P (text t)
   unfolding text
   text_has t = by (is_too_long t) refl
@@ -183,6 +188,10 @@ module _ (P : Value → Type 0) (C : IsClosed P) where
   pub arranged_have : (fields : List (List ℕ)) (written : List (List ℕ × Value)) → NamedHave written → All P (arranged fields written)
   unfolding arranged
   arranged_have fields written h = arrange fields written h
+
+  pub arranged_count : (fields : List (List ℕ)) (written : List (List ℕ × Value)) → length (arranged fields written) ≡ length fields
+  unfolding arranged
+  arranged_count fields written = length-map fields (λ f. unwrap_or (found written f) value.Null)
 
   pub list_at_has : (lists : List (List Value)) (place : ℕ) → All (λ vs. All P vs) lists → All P (list_at lists place)
   list_at_has [] place h = All-nil P

@@ -1,5 +1,5 @@
 -- What an evaluation leaves, where it comes to its end.
-use Rattle.std.proofs.Common.{◌≡◌, ℕ, ◌≤◌, ◌+◌, Bool, true, false, nat_lt, if◌then◌else◌, List, Ok, Err, refl, sym, subst, ◌∙◌, arith}
+use Rattle.std.proofs.Common.{◌≡◌, ℕ, ◌≤◌, ◌+◌, Bool, true, false, nat_lt, if◌then◌else◌, List, length, Ok, Err, refl, sym, subst, ◌∙◌, arith}
 use Rattle.std.specs.List.{All}
 use Rattle.std.proofs.lemmas.Bool.Decides.{nat_tests}
 use Rattle.std.proofs.lemmas.List.Elements.{All-same}
@@ -65,10 +65,10 @@ pub record IsSized (v : Value) : Type 0 where
   pub cells_in : cells v ≤ 65536
   pub text_in : text_len v ≤ 1048576
 
-module _ (P : Value → Type 0) (C : IsClosed P) where
+module _ (W : ℕ → ℕ → Type 0) (P : Value → Type 0) (C : IsClosed W P) where
   -- P holds of the value, where it does of the values of the names in scope
   abbrev pub Comes : State → Value → Type 0
-  Comes s v = NamedHave P C s.scope → P v
+  Comes s v = NamedHave W P C s.scope → P v
 
   -- a value within the bounds, and the state before
   pub record IsCounted (s : State) (v : Value) (t : State) : Type 0 where
@@ -119,17 +119,17 @@ module _ (P : Value → Type 0) (C : IsClosed P) where
   pub made_after : (at : ℕ) (v : Value) (s t : State) → Stays s t → Comes s v → Leaves (IsCounted s) (made at v t)
   made_after at v s t h c = weaker (IsCounted t) (IsCounted s) (made at v t) (λ w u k. counted_after s t u w h k) (made_counted at v t (comes_after s t v h c))
 
-  pub list_counted : (at step : ℕ) (parts : List Value) (s t : State) → Stays s t → (NamedHave P C s.scope → All P parts) → Leaves (IsCounted s) (made_list at step parts t)
+  pub list_counted : (at step : ℕ) (parts : List Value) (s t : State) → Stays s t → (NamedHave W P C s.scope → All P parts) → Leaves (IsCounted s) (made_list at step parts t)
   unfolding made_list
   list_counted at step parts s t h c =
       made_after at _ s (record t { nodes = t.nodes + 1 })
       (record { same_puts = h.same_puts; same_calls = h.same_calls; same_call_cells = h.same_call_cells; same_call_text = h.same_call_text; same_scope = h.same_scope; more_nodes = omega (arith, h.more_nodes) }) (λ m. C.list _ parts (c m))
 
-  pub bean_counted : (at step bean : ℕ) (parts : List Value) (s t : State) → Stays s t → (NamedHave P C s.scope → All P parts) → Leaves (IsCounted s) (made_bean at step bean parts t)
+  pub bean_counted : (at step bean : ℕ) (parts : List Value) (s t : State) → W bean (length parts) → Stays s t → (NamedHave W P C s.scope → All P parts) → Leaves (IsCounted s) (made_bean at step bean parts t)
   unfolding made_bean
-  bean_counted at step bean parts s t h c =
+  bean_counted at step bean parts s t w h c =
       made_after at _ s (record t { nodes = t.nodes + 1 })
-      (record { same_puts = h.same_puts; same_calls = h.same_calls; same_call_cells = h.same_call_cells; same_call_text = h.same_call_text; same_scope = h.same_scope; more_nodes = omega (arith, h.more_nodes) }) (λ m. C.bean _ bean parts (c m))
+      (record { same_puts = h.same_puts; same_calls = h.same_calls; same_call_cells = h.same_call_cells; same_call_text = h.same_call_text; same_scope = h.same_scope; more_nodes = omega (arith, h.more_nodes) }) (λ m. C.bean _ bean parts w (c m))
 
 -- a value that is counted, unless one of these limits is passed
 abbrev tested : ℕ → Value → State → Bool → Bool → Bool → Checked (Value × State)

@@ -1,10 +1,14 @@
+pub mod Bounded
 pub mod Closed
 pub mod FineExpressions
+pub mod Fits
 pub mod Forms
 pub mod Kept
 pub mod Leaves
 pub mod Origins
 pub mod Recorded
+pub mod RightStatements
+pub mod Rightly
 pub mod Short
 pub mod Sound
 pub mod SteadyStatements

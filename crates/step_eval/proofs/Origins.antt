@@ -1,5 +1,5 @@
 -- Where the proxies in a value come from: a fact that holds of each proxy in the parts holds of each in the whole, and back.
-use Rattle.std.proofs.Common.{◌≡◌, inl, inr, ℕ, ◌≤◌, ℤ, Bool, List, [], ◌∷◌, ◌++◌, map, refl, sym, ap, subst, ◌∙◌}
+use Rattle.std.proofs.Common.{◌≡◌, inl, inr, ℕ, Bool, List, [], ◌∷◌, ◌++◌, map, refl, sym, ap, subst, ◌∙◌}
 use Rattle.std.specs.List.{All, flat_map}
 use Rattle.std.proofs.lemmas.List.Elements.{All-nil, All-cons, All-head, All-tail, All-append}
 use Rattle.std.proofs.lemmas.List.Folds.{flat_map-map}
@@ -11,7 +11,7 @@ use Rattle.item_types.specs.declared.value.Value.TheVariants as value
 use Rattle.recorder_proxy.specs.Proxies.{proxies, proxies_step}
 use Rattle.recorder_proxy.proofs.Depth_first.{proxies_of_parts}
 use Rattle.step_state.specs.Operations.{Layer}
-use Rattle.step_eval.proofs.Closed.{IsClosed}
+use Rattle.step_eval.proofs.Closed.{Always, IsClosed}
 
 -- R holds of each proxy in it
 abbrev pub From : (Proxy → Type 0) → Value → Type 0
@@ -55,14 +55,14 @@ module _ (R : Proxy → Type 0) where
   parts_from : (parts : List Value) → All R (flat_map (λ ps. ps) (map proxies parts)) → All (From R) parts
   parts_from parts h = flat_all parts (subst (λ ps. All R ps) (flat_map-map (λ ps. ps) proxies parts) h)
 
-  pub from_closed : IsClosed (From R)
+  pub from_closed : IsClosed Always (From R)
   from_closed = record {
     null = plain value.Null (ap proxies (sym value.rolls-Null) ∙ fold-roll-Value (List Proxy) proxies_step one.Null);
     truth = λ b. plain (value.Bool b) (ap proxies (sym (value.rolls-Bool b)) ∙ fold-roll-Value (List Proxy) proxies_step (one.Bool b));
     number = λ n. plain (value.Long n) (ap proxies (sym (value.rolls-Long n)) ∙ fold-roll-Value (List Proxy) proxies_step (one.Long n));
     short = λ t h. plain (value.Str t) (ap proxies (sym (value.rolls-Str t)) ∙ fold-roll-Value (List Proxy) proxies_step (one.Str t));
     list = from_List;
-    bean = from_Bean;
+    bean = λ id bean parts w h. from_Bean id bean parts h;
     of_list = λ v id parts e h. parts_from parts (subst (λ ps. All R ps) (by_form v (one.List id parts) e) h);
     of_bean = λ v id bean parts e h. parts_from parts (subst (λ ps. All R ps) (by_form v (one.Bean id bean parts) e) h);
   }

@@ -14,7 +14,9 @@ use Rattle.step_eval.specs.KeptCall.{IsNextCall}
 use Rattle.step_eval.specs.Setting.{Setting}
 use Rattle.step_state.specs.Spending.{record_call}
 use Rattle.step_eval.specs.Statements.{fits_phase, recorded, called}
+use Rattle.step_eval.proofs.Rightly.{AnyExpr, any_exprs, any_opens}
 use Rattle.step_eval.proofs.Leaves.{Leaves, in_turn, lifted, weaker}
+use Rattle.step_eval.proofs.Closed.{Always}
 use Rattle.step_eval.proofs.FineExpressions.{AreCounted, all_counted, fine_expressions, Any, any_closed, any_taken}
 
 -- the number is that of the last call, which was recorded now
@@ -46,8 +48,8 @@ recorded_next cx phase i keeps args s o is = subst (λ (p : Option Phase). Leave
 
 called_next : (cx : Setting) (phase : Phase) (i : Invoke) (keeps : Bool) (s : State) → cx.decl.phase ≡ Some phase → Leaves (IsNextCall cx.step phase i keeps s) (called cx i keeps s)
 unfolding called
-called_next cx phase i keeps s is = in_turn (AreCounted Any any_closed s) (IsNextCall cx.step phase i keeps s) (all (map (meaning cx) i.args) s) (recorded cx cx.decl.phase i keeps)
-    (all_counted Any any_closed (map (meaning cx) i.args) (fine_expressions Any any_closed cx (any_taken cx) i.args) s)
+called_next cx phase i keeps s is = in_turn (AreCounted Always Any any_closed (map (meaning cx) i.args) s) (IsNextCall cx.step phase i keeps s) (all (map (meaning cx) i.args) s) (recorded cx cx.decl.phase i keeps)
+    (all_counted Always Any any_closed (map (meaning cx) i.args) (fine_expressions Always Any any_closed cx AnyExpr (any_opens cx) (any_taken cx) i.args (any_exprs cx i.args)) s)
     (λ vs t k. weaker (IsNextCall cx.step phase i keeps t) (IsNextCall cx.step phase i keeps s) (recorded cx cx.decl.phase i keeps vs t)
     (λ v u m. record {
       args = m.args;

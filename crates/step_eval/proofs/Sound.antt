@@ -34,9 +34,10 @@ use Rattle.step_eval.specs.KnownProxies.{IsKnown, IsRecorded}
 use Rattle.step_eval.specs.Setting.{Setting}
 use Rattle.step_eval.specs.Statements.{Doing, run, block, maybe, in_turn, turns, refuse_runtime, fits_phase, recorded, called, stmt_step, doing}
 use Rattle.step_eval.proofs.FineExpressions.{TakenFrom, AreCounted, all_counted, fine_expression, fine_expressions}
+use Rattle.step_eval.proofs.Rightly.{AnyExpr, any_exprs, any_opens}
 use Rattle.step_eval.proofs.Leaves.{Leaves, lifted, weaker, Stays, IsCounted}
 use Rattle.step_eval.proofs.Leaves as left
-use Rattle.step_eval.proofs.Closed.{NamedHave, Only, elements_have}
+use Rattle.step_eval.proofs.Closed.{Always, NamedHave, Only, elements_have}
 use Rattle.step_eval.proofs.Origins.{From, first, second, flat_all, from_closed, from_Returned}
 
 -- what was taken is known
@@ -46,7 +47,7 @@ flat_lists R (vs ∷ ls) h =
     All-cons (λ xs. All (From R) xs) vs ls (flat_all R vs (first R (flat_map proxies vs) (flat_map (λ values. flat_map proxies values) ls) h))
     (flat_lists R ls (second R (flat_map proxies vs) (flat_map (λ values. flat_map proxies values) ls) h))
 
-taken_known : (cx : Setting) (calls : List Call) → TakenFrom (From (IsKnown cx calls)) (from_closed (IsKnown cx calls)) cx
+taken_known : (cx : Setting) (calls : List Call) → TakenFrom Always (From (IsKnown cx calls)) (from_closed (IsKnown cx calls)) cx
 taken_known cx calls =
     let ps : List Proxy = flat_map (λ values. flat_map proxies values) cx.lists in
     flat_lists (IsKnown cx calls) cx.lists (All-weaker (Contains ps) (IsKnown cx calls) (λ p h. inl h) ps (All-contains_itself ps))
@@ -74,7 +75,7 @@ last_kept (d ∷ ds) c h = last_kept ds c h
 
 -- the state's parts fit each other
 record IsSoundAt (cx : Setting) (scope : List (List ℕ × Value)) (puts : List (ℕ × Value)) (calls : List Call) (call_cells call_text : ℕ) : Type 0 where
-  scope_known : NamedHave (From (IsKnown cx calls)) (from_closed (IsKnown cx calls)) scope
+  scope_known : NamedHave Always (From (IsKnown cx calls)) (from_closed (IsKnown cx calls)) scope
   recorded : IsRecorded cx puts calls
   cells_are : call_cells ≡ cells_of calls
   text_are : call_text ≡ text_of calls
@@ -270,8 +271,8 @@ recorded_good cx (Some phase) i keeps args s is h k =
 
 called_good : (cx : Setting) (i : Invoke) (keeps : Bool) (s : State) → IsSound cx s → Leaves (IsProxied cx keeps s) (called cx i keeps s)
 unfolding called
-called_good cx i keeps s h = left.in_turn (AreCounted (From (IsKnown cx s.calls)) (from_closed (IsKnown cx s.calls)) s) (IsProxied cx keeps s) (all (map (meaning cx) i.args) s) (recorded cx cx.decl.phase i keeps)
-    (all_counted (From (IsKnown cx s.calls)) (from_closed (IsKnown cx s.calls)) (map (meaning cx) i.args) (fine_expressions (From (IsKnown cx s.calls)) (from_closed (IsKnown cx s.calls)) cx (taken_known cx s.calls) i.args) s)
+called_good cx i keeps s h = left.in_turn (AreCounted Always (From (IsKnown cx s.calls)) (from_closed (IsKnown cx s.calls)) (map (meaning cx) i.args) s) (IsProxied cx keeps s) (all (map (meaning cx) i.args) s) (recorded cx cx.decl.phase i keeps)
+    (all_counted Always (From (IsKnown cx s.calls)) (from_closed (IsKnown cx s.calls)) (map (meaning cx) i.args) (fine_expressions Always (From (IsKnown cx s.calls)) (from_closed (IsKnown cx s.calls)) cx AnyExpr (any_opens cx) (taken_known cx s.calls) i.args (any_exprs cx i.args)) s)
     (λ vs t k.
     let g : Grows cx s t = stayed cx s t k.still h in
     weaker (IsProxied cx keeps t) (IsProxied cx keeps s) (recorded cx cx.decl.phase i keeps vs t)
@@ -289,9 +290,9 @@ record IsValue (cx : Setting) (s : State) (v : Value) (t : State) : Type 0 where
   known : From (IsKnown cx t.calls) v
 
 value_good : (cx : Setting) (e : Expr) (s : State) → IsSound cx s → Leaves (IsValue cx s) (value_of cx e s)
-value_good cx e s h = weaker (IsCounted (From (IsKnown cx s.calls)) (from_closed (IsKnown cx s.calls)) s) (IsValue cx s) (value_of cx e s)
+value_good cx e s h = weaker (IsCounted Always (From (IsKnown cx s.calls)) (from_closed (IsKnown cx s.calls)) s) (IsValue cx s) (value_of cx e s)
     (λ v t k. record { grows = stayed cx s t k.still h; known = subst (λ (l : List Call). From (IsKnown cx l) v) (sym k.still.same_calls) (k.comes h.scope_known) })
-    ((fine_expression (From (IsKnown cx s.calls)) (from_closed (IsKnown cx s.calls)) cx (taken_known cx s.calls) e).fine s)
+    ((fine_expression Always (From (IsKnown cx s.calls)) (from_closed (IsKnown cx s.calls)) cx AnyExpr (any_opens cx) (taken_known cx s.calls) e tt).fine s)
 
 valued : (cx : Setting) (e : Expr) (s : State) → IsSound cx s → Leaves (IsValue cx s) (and_then (turn s) (λ r. value_of cx e r.1))
 valued cx e s h = left.in_turn (λ u t. Grows cx s t) (IsValue cx s) (turn s) (λ u. value_of cx e) (turn_good cx s h)
@@ -309,7 +310,7 @@ record IsList (cx : Setting) (s : State) (vs : List Value) (t : State) : Type 0 
 
 listed : (cx : Setting) (at : ℕ) (e : Expr) (s : State) → IsSound cx s → Leaves (IsList cx s) (and_then (and_then (turn s) (λ r. value_of cx e r.1)) (λ r. lift (elements at r.0) r.1))
 listed cx at e s h = left.in_turn (IsValue cx s) (IsList cx s) (and_then (turn s) (λ r. value_of cx e r.1)) (λ v. lift (elements at v)) (valued cx e s h)
-    (λ v t m. checked s t m.grows (elements at v) (elements_have (From (IsKnown cx t.calls)) (from_closed (IsKnown cx t.calls)) at v m.known))
+    (λ v t m. checked s t m.grows (elements at v) (elements_have Always (From (IsKnown cx t.calls)) (from_closed (IsKnown cx t.calls)) at v m.known))
   where
     checked : (s t : State) → Grows cx s t → (o : Checked (List Value)) → Only (λ vs. All (From (IsKnown cx t.calls)) vs) o → Leaves (IsList cx s) (lift o t)
     checked s t g (Ok vs) k = record { grows = g; known = k }

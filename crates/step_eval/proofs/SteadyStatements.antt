@@ -1,22 +1,17 @@
 -- A statement keeps the names that were in scope before it, and takes no node back.
 use Rattle.std.proofs.Common.{◌≡◌, ℕ, ◌≤◌, Bool, true, false, nat_lt, ◌+◌, ◌||◌, if◌then◌else◌, List, [], ◌∷◌, ◌++◌, map, sum, length, take, slice_get, Option, Some, None, Ok, Err, refl, sym, ap, subst, ◌∙◌, append_assoc, append-nil, arith}
-use Rattle.std.specs.List.{All}
 use Rattle.std.proofs.Math.Seq.{take-append_seam}
-use Rattle.std.proofs.lemmas.List.Elements.{All-nil, All-push, All-same}
 use Rattle.item_types.specs.Measure.{cells, text_len}
 use Rattle.item_types.specs.declared.decl.Names.{Names}
 use Rattle.item_types.specs.declared.step.Phase.{Phase}
-use Rattle.item_types.specs.declared.step.StepDecl.{StepDecl}
 use Rattle.item_types.specs.declared.value.Value.{Value}
 use Rattle.item_types.specs.declared.value.Value.TheVariants as value
-use Rattle.syntax_tree.specs.declared.tree.Body.{Body}
 use Rattle.syntax_tree.specs.declared.tree.Expr.{Expr}
 use Rattle.syntax_tree.specs.declared.tree.Invoke.{Invoke}
 use Rattle.syntax_tree.specs.declared.tree.Stmt.{Stmt, roll-Stmt, map-Stmt, ind-Stmt, fold-roll-Stmt}
 use Rattle.syntax_tree.specs.declared.tree.Stmt.TheOpen.{Stmt-F}
 use Rattle.syntax_tree.specs.declared.tree.Stmt.TheOpen as form
-use Rattle.step_eval.specs.BodyMeaning.{taking, body_of, ended, meaning_of_a_body}
-use Rattle.step_state.specs.declared.outcome.Inputs.{Inputs}
+use Rattle.step_eval.specs.BodyMeaning.{body_of, ended}
 use Rattle.step_state.specs.declared.outcome.Outcome.TheVariants.{Done}
 use Rattle.step_state.specs.declared.outcome.Reason.TheVariants.{TooManyTurns, TooManyPut, TooManyRecorded}
 use Rattle.step_state.specs.declared.state.State.{State}
@@ -27,8 +22,10 @@ use Rattle.step_state.specs.Scoped.{bind, scoped}
 use Rattle.step_eval.specs.Setting.{Setting}
 use Rattle.step_state.specs.Spending.{turn, fits_item, keep_put, put, record_call, start}
 use Rattle.step_eval.specs.Statements.{Doing, run, block, in_turn, turns, fits_phase, recorded, called, stmt_step, doing}
+use Rattle.step_eval.proofs.Rightly.{AnyExpr, any_exprs, any_opens}
 use Rattle.step_eval.proofs.Leaves.{Leaves, lifted, weaker, Stays, IsCounted}
 use Rattle.step_eval.proofs.Leaves as left
+use Rattle.step_eval.proofs.Closed.{Always}
 use Rattle.step_eval.proofs.FineExpressions.{AreCounted, all_counted, fine_expression, fine_expressions, Any, any_closed, any_taken}
 
 -- the names in scope before are still there, and no node is taken back
@@ -128,13 +125,13 @@ recorded_goes cx (Some phase) i keeps args s =
 
 called_goes : (cx : Setting) (i : Invoke) (keeps : Bool) (s : State) → Leaves (λ v t. Goes s t) (called cx i keeps s)
 unfolding called
-called_goes cx i keeps s = left.in_turn (AreCounted Any any_closed s) (λ v t. Goes s t) (all (map (meaning cx) i.args) s) (recorded cx cx.decl.phase i keeps)
-    (all_counted Any any_closed (map (meaning cx) i.args) (fine_expressions Any any_closed cx (any_taken cx) i.args) s)
+called_goes cx i keeps s = left.in_turn (AreCounted Always Any any_closed (map (meaning cx) i.args) s) (λ v t. Goes s t) (all (map (meaning cx) i.args) s) (recorded cx cx.decl.phase i keeps)
+    (all_counted Always Any any_closed (map (meaning cx) i.args) (fine_expressions Always Any any_closed cx AnyExpr (any_opens cx) (any_taken cx) i.args (any_exprs cx i.args)) s)
     (λ vs t k. goes_by (recorded cx cx.decl.phase i keeps vs) s t (stayed s t k.still) (recorded_goes cx cx.decl.phase i keeps vs t))
 
 valued : (cx : Setting) (e : Expr) (s : State) → Leaves (λ v t. Goes s t) (and_then (turn s) (λ r. value_of cx e r.1))
 valued cx e s = left.in_turn (λ u t. Goes s t) (λ v t. Goes s t) (turn s) (λ u. value_of cx e) (turn_goes s)
-    (λ u t k. weaker (IsCounted Any any_closed t) (λ v w. Goes s w) (value_of cx e t) (λ v w m. goes_on s t w k (stayed t w m.still)) ((fine_expression Any any_closed cx (any_taken cx) e).fine t))
+    (λ u t k. weaker (IsCounted Always Any any_closed t) (λ v w. Goes s w) (value_of cx e t) (λ v w m. goes_on s t w k (stayed t w m.still)) ((fine_expression Always Any any_closed cx AnyExpr (any_opens cx) (any_taken cx) e tt).fine t))
 
 with_value : {A : Type 0} (cx : Setting) (e : Expr) (f : Value → Eval A) (s : State) → ((v : Value) (t : State) → Leaves (λ a u. Goes t u) (f v t)) →
     Leaves (λ a u. Goes s u) (and_then (and_then (turn s) (λ r. value_of cx e r.1)) (λ r. f r.0 r.1))

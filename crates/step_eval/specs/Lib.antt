@@ -1,6 +1,7 @@
 pub mod BodyMeaning
 pub mod BoundedOutcome
 pub mod Expressions
+pub mod FittingOutcome
 pub mod KeptCall
 pub mod KnownProxies
 pub mod NextNode

@@ -51,11 +51,11 @@ pub fn eval(
     }
 }
 
-fn execute_body(
+fn execute_body<'a>(
     alloc: Global,
     cx: &Context<'_>,
-    state: &mut State,
-    stmts: &[Stmt],
+    state: &mut State<'a>,
+    stmts: &'a [Stmt],
 ) -> Result<(), Stop>
     ensures { Evals (spec.body_of cx.now (map (doing cx.now) stmts.now) state.old) result state.new }
 {

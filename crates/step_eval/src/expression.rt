@@ -7,9 +7,9 @@ ghost use Rattle.step_eval.specs.Expressions.{meaning};
 ghost use Rattle.step_eval.specs.Taken.{taken, first_of};
 
 use crate::context::Context;
-use item_types::{Memory, Same, Seq, Text, Value, copy_values};
+use item_types::{Memory, Seq, Text, Value, copy_values};
 use std::alloc::Global;
-use step_state::{State, Stop, arranged, count, equal, field, less, plus, text, truth};
+use step_state::{Scope, State, Stop, arranged, count, equal, field, less, plus, text, truth};
 use syntax_tree::{Expr, Link};
 
 /// The first token of an expression.
@@ -59,7 +59,7 @@ fn first_taken(cx: &Context<'_>, item: u32) -> Result<Value, Memory>
 fn follow(
     alloc: Global,
     cx: &Context<'_>,
-    state: &mut State,
+    state: &mut State<'_>,
     at: u32,
     links: &[Link],
     value: Value,
@@ -76,7 +76,12 @@ fn follow(
 
 /// The value of an expression.
 #[cycle(expr)]
-pub fn value_of(alloc: Global, cx: &Context<'_>, state: &mut State, e: &Expr) -> Result<Value, Stop>
+pub fn value_of(
+    alloc: Global,
+    cx: &Context<'_>,
+    state: &mut State<'_>,
+    e: &Expr,
+) -> Result<Value, Stop>
     ensures { Evals (spec.value_of cx.now e.now state.old) result state.new }
 {
     match e {
@@ -158,7 +163,7 @@ pub fn value_of(alloc: Global, cx: &Context<'_>, state: &mut State, e: &Expr) ->
 pub fn values_of(
     alloc: Global,
     cx: &Context<'_>,
-    state: &mut State,
+    state: &mut State<'_>,
     parts: &[Expr],
 ) -> Result<Seq<Value>, Stop>
     ensures { Evals (spec.all (map (meaning cx.now) parts.now) state.old) result state.new }
@@ -176,7 +181,7 @@ pub fn values_of(
 fn value_of_new(
     alloc: Global,
     cx: &Context<'_>,
-    state: &mut State,
+    state: &mut State<'_>,
     at: u32,
     bean: u32,
     fields: &[(Text, Expr)],
@@ -189,28 +194,27 @@ fn value_of_new(
 }
 
 #[cycle(expr)]
-fn values_of_fields(
+fn values_of_fields<'a>(
     alloc: Global,
     cx: &Context<'_>,
-    state: &mut State,
-    fields: &[(Text, Expr)],
-) -> Result<Seq<(Text, Value)>, Stop>
+    state: &mut State<'_>,
+    fields: &'a [(Text, Expr)],
+) -> Result<Scope<'a, Value>, Stop>
     ensures { Evals (spec.named (map (λ f. (f.0, meaning cx.now f.1)) fields.now) state.old) result state.new }
 {
-    let mut out = Seq::with_capacity(alloc, fields.len())?;
+    let mut written = Scope::new(alloc);
     for field in fields {
         let v = value_of(alloc, cx, state, &field.1)?;
-        let name = field.0.try_copy(alloc)?;
-        out.push((name, v))?;
+        written.push(field.0.as_str(), v)?;
     }
-    Ok(out)
+    Ok(written)
 }
 
 #[cycle(expr)]
 fn sum_of(
     alloc: Global,
     cx: &Context<'_>,
-    state: &mut State,
+    state: &mut State<'_>,
     parts: &[Expr],
     signs: &[u32],
 ) -> Result<Value, Stop>
@@ -231,7 +235,7 @@ fn sum_of(
 fn add_part(
     alloc: Global,
     cx: &Context<'_>,
-    state: &mut State,
+    state: &mut State<'_>,
     part: &Expr,
     sum: Value,
     sign: u32,
@@ -246,7 +250,7 @@ fn add_part(
 fn both_of(
     alloc: Global,
     cx: &Context<'_>,
-    state: &mut State,
+    state: &mut State<'_>,
     parts: &[Expr],
     signs: &[u32],
 ) -> Result<bool, Stop>

@@ -1,6 +1,7 @@
 ghost use Rattle.std.specs.Prelude.{◌≡◌, ℕ, ◌≤◌, Bool, List, map, Ok, Some};
 ghost use Rattle.std.specs.List.{All};
 ghost use Rattle.item_types.specs.Bounds.{IsBounded};
+ghost use Rattle.item_types.specs.Fitting.{ValueFits};
 ghost use Rattle.item_types.specs.declared.decl.Names.{Names};
 ghost use Rattle.item_types.specs.declared.step.StepDecl.{StepDecl};
 ghost use Rattle.item_types.specs.declared.step.Phase.{Phase};
@@ -9,6 +10,7 @@ ghost use Rattle.item_types.specs.declared.value.Value.TheVariants as value;
 ghost use Rattle.recorder_proxy.specs.declared.call.Call.{Call};
 ghost use Rattle.step_eval.specs.BodyMeaning.{meaning_of_a_body, given};
 ghost use Rattle.step_eval.specs.BoundedOutcome.{HasBoundedValues};
+ghost use Rattle.step_eval.specs.FittingOutcome.{OutcomeFits};
 ghost use Rattle.step_eval.specs.KeptCall.{IsNextCall};
 ghost use Rattle.step_eval.specs.KnownProxies.{IsRecorded};
 ghost use Rattle.step_eval.specs.NextNode.{IsNextNode};
@@ -18,9 +20,12 @@ ghost use Rattle.step_eval.specs.Statements.{block, called, doing, run};
 ghost use Rattle.step_state.specs.declared.outcome.Inputs.{Inputs};
 ghost use Rattle.step_state.specs.declared.outcome.Outcome.TheVariants.{Done};
 ghost use Rattle.step_state.specs.declared.state.State.{State};
+ghost use Rattle.syntax_tree.specs.Right.{IsRightBody};
 ghost use Rattle.syntax_tree.specs.declared.tree.Body.{Body};
 ghost use Rattle.syntax_tree.specs.declared.tree.Invoke.{Invoke};
 ghost use Rattle.syntax_tree.specs.declared.tree.Stmt.{Stmt};
+
+use item_types::{a_list_of_what_fits_fits, a_short_text_fits, a_whole_bean_fits};
 
 /// Where each value that was taken is within the bounds, each value that a body produces or hands
 /// to a recorded call has a depth of at most 64, at most 65,536 cells and at most 1,048,576 bytes
@@ -28,6 +33,17 @@ ghost use Rattle.syntax_tree.specs.declared.tree.Stmt.{Stmt};
 pub const fn outcomes_are_bounded()
     ensures { (names : Names) (decl : StepDecl) (step : ℕ) (body : Body) (inputs : Inputs) → All (λ values. All IsBounded values) inputs.lists → HasBoundedValues (meaning_of_a_body names decl step body inputs) }
 {}
+
+/// What a right body comes to fits the declared names, where what was taken does: each put is of a
+/// declared item, has a value that fits, and has a key where the item is ordered, and each
+/// recorded call is of a declared method, with a value that fits for each parameter.
+pub const fn a_right_body_comes_to_what_fits()
+    ensures { (names : Names) (decl : StepDecl) (step : ℕ) (body : Body) (inputs : Inputs) → IsRightBody names decl body → All (λ values. All (ValueFits names) values) inputs.lists → OutcomeFits names (meaning_of_a_body names decl step body inputs) }
+{
+    a_short_text_fits();
+    a_list_of_what_fits_fits();
+    a_whole_bean_fits();
+}
 
 /// After a block the names in scope are those before it: the evaluation leaves no name of a block
 /// behind.

@@ -14,7 +14,7 @@ mod statement;
 pub use body::eval;
 pub use laws::{
     a_block_leaves_no_name, a_new_bean_has_the_next_number, a_new_list_has_the_next_number,
-    a_proxy_has_its_calls_number, outcomes_are_bounded, the_count_of_nodes_never_falls,
-    what_is_recorded_is_sound,
+    a_proxy_has_its_calls_number, a_right_body_comes_to_what_fits, outcomes_are_bounded,
+    the_count_of_nodes_never_falls, what_is_recorded_is_sound,
 };
 pub use step_state::{Inputs, Outcome, Reason};

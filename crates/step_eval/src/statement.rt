@@ -16,18 +16,23 @@ use syntax_tree::{Invoke, Stmt};
 
 /// Does one statement.
 #[cycle(exec)]
-pub fn execute(alloc: Global, cx: &Context<'_>, state: &mut State, stmt: &Stmt) -> Result<(), Stop>
+pub fn execute<'a>(
+    alloc: Global,
+    cx: &Context<'_>,
+    state: &mut State<'a>,
+    stmt: &'a Stmt,
+) -> Result<(), Stop>
     ensures { Evals (doing cx.now stmt.now state.old) result state.new }
 {
     state.turn()?;
     match stmt {
         Stmt::Let { name, value, .. } => {
             let v = value_of(alloc, cx, state, value)?;
-            state.bind(alloc, name, v)
+            state.bind(name, v)
         }
         Stmt::LetCall { name, call, .. } => {
             let v = invoke(alloc, cx, state, call, true)?;
-            state.bind(alloc, name, v)
+            state.bind(name, v)
         }
         Stmt::CallOf { call } => {
             invoke(alloc, cx, state, call, false)?;
@@ -77,11 +82,11 @@ pub fn execute(alloc: Global, cx: &Context<'_>, state: &mut State, stmt: &Stmt) 
 
 /// Does the statements, one after the other.
 #[cycle(exec)]
-pub fn execute_all(
+pub fn execute_all<'a>(
     alloc: Global,
     cx: &Context<'_>,
-    state: &mut State,
-    stmts: &[Stmt],
+    state: &mut State<'a>,
+    stmts: &'a [Stmt],
 ) -> Result<(), Stop>
     ensures { Evals (spec.run (map (doing cx.now) stmts.now) state.old) result state.new }
 {
@@ -92,11 +97,11 @@ pub fn execute_all(
 }
 
 #[cycle(exec)]
-fn execute_block(
+fn execute_block<'a>(
     alloc: Global,
     cx: &Context<'_>,
-    state: &mut State,
-    stmts: &[Stmt],
+    state: &mut State<'a>,
+    stmts: &'a [Stmt],
 ) -> Result<(), Stop>
     ensures { Evals (spec.block (map (doing cx.now) stmts.now) state.old) result state.new }
 {
@@ -107,12 +112,12 @@ fn execute_block(
 }
 
 #[cycle(exec)]
-fn execute_turns(
+fn execute_turns<'a>(
     alloc: Global,
     cx: &Context<'_>,
-    state: &mut State,
-    stmts: &[Stmt],
-    name: &Text,
+    state: &mut State<'a>,
+    stmts: &'a [Stmt],
+    name: &'a Text,
     values: &[Value],
 ) -> Result<(), Stop>
     ensures { Evals (spec.turns name.now values.now (map (doing cx.now) stmts.now) state.old) result state.new }
@@ -125,19 +130,19 @@ fn execute_turns(
 }
 
 #[cycle(exec)]
-fn execute_turn(
+fn execute_turn<'a>(
     alloc: Global,
     cx: &Context<'_>,
-    state: &mut State,
-    stmts: &[Stmt],
-    name: &Text,
+    state: &mut State<'a>,
+    stmts: &'a [Stmt],
+    name: &'a Text,
     value: &Value,
 ) -> Result<(), Stop>
     ensures { Evals (scoped (spec.in_turn name.now value.now (map (doing cx.now) stmts.now)) state.old) result state.new }
 {
     let names = state.scope.len();
     let value = value.try_copy()?;
-    state.bind(alloc, name, value)?;
+    state.bind(name, value)?;
     execute_all(alloc, cx, state, stmts)?;
     state.scope.truncate(names);
     Ok(())
@@ -148,7 +153,7 @@ fn execute_turn(
 fn invoke(
     alloc: Global,
     cx: &Context<'_>,
-    state: &mut State,
+    state: &mut State<'_>,
     call: &Invoke,
     keeps: bool,
 ) -> Result<Value, Stop>
@@ -161,7 +166,7 @@ fn invoke(
 #[tactic(auto, unfolding(crate::specs::Statements::recorded))]
 fn record_call(
     cx: &Context<'_>,
-    state: &mut State,
+    state: &mut State<'_>,
     call: &Invoke,
     keeps: bool,
     args: Seq<Value>,

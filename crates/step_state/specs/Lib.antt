@@ -1,3 +1,4 @@
+pub mod Bound
 pub mod Evaluation
 pub mod Operations
 pub mod Scoped

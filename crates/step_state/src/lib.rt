@@ -6,7 +6,6 @@
 //! memory alone is free.
 #![tactic(auto)]
 
-mod finding;
 mod measure;
 mod operation;
 mod outcome;

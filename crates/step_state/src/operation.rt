@@ -5,10 +5,11 @@ ghost use Rattle.std.specs.Bool.{OnTrue};
 ghost use Rattle.item_types.specs.declared.value.Value.{out-Value};
 ghost use Rattle.operators.specs.Operands.{shown};
 ghost use Rattle.step_state.specs.Evaluation.{Gives};
+ghost use Rattle.step_state.specs.Bound.{bound};
 ghost use Rattle.step_state.specs.Operations as spec;
 
-use crate::finding::newest;
 use crate::outcome::Reason;
+use crate::scope::{Scope, newest};
 use crate::stop::Stop;
 use item_types::{Memory, Names, Same, Seq, Shared, SharedText, Text, Value, part_of};
 use operators::{Added, Operand, is_too_long, len, same_plain};
@@ -164,28 +165,28 @@ pub fn field(
 pub fn arranged(
     alloc: Global,
     fields: &[Text],
-    written: Seq<(Text, Value)>,
+    written: Scope<'_, Value>,
 ) -> Result<Seq<Value>, Memory>
-    ensures { IfOk result (λ vs. vs ≡ spec.arranged fields.now written) }
+    ensures { IfOk result (λ vs. vs ≡ spec.arranged fields.now written.entry) }
 {
     if is_in_order(fields, written.as_slice()) {
         return written_values(alloc, written);
     }
-    arranged_copies(alloc, fields, written.as_slice())
+    arranged_copies(alloc, fields, &written)
 }
 
 /// Whether each field was written at its own place, and not again after it. Then the values as
 /// they were written are in the declared order.
 #[tactic(auto, unfolding(crate::specs::Operations::arranged))]
-fn is_in_order(fields: &[Text], written: &[(Text, Value)]) -> bool
-    ensures { OnTrue result (spec.arranged fields.now written.now ≡ map (λ p. p.1) written.now) }
+fn is_in_order(fields: &[Text], written: &[(&str, Value)]) -> bool
+    ensures { OnTrue result (spec.arranged fields.now (bound written.now) ≡ map (λ p. p.1) (bound written.now)) }
 {
     if fields.len() != written.len() {
         return false;
     }
     for i in 0..written.len() {
         let field = fields[i].as_str();
-        if written[i].0.as_str() != field || newest(&written[i + 1..], field).is_some() {
+        if written[i].0 != field || newest(&written[i + 1..], field).is_some() {
             return false;
         }
     }
@@ -193,11 +194,11 @@ fn is_in_order(fields: &[Text], written: &[(Text, Value)]) -> bool
 }
 
 /// The values as they were written.
-fn written_values(alloc: Global, written: Seq<(Text, Value)>) -> Result<Seq<Value>, Memory>
-    ensures { IfOk result (λ vs. vs ≡ map (λ p. p.1) written) }
+fn written_values(alloc: Global, written: Scope<'_, Value>) -> Result<Seq<Value>, Memory>
+    ensures { IfOk result (λ vs. vs ≡ map (λ p. p.1) written.entry) }
 {
     let mut values = Seq::with_capacity(alloc, written.len())?;
-    for (_, value) in written.into_vec() {
+    for (_, value) in written.into_entries() {
         values.push(value)?;
     }
     Ok(values)
@@ -208,13 +209,13 @@ fn written_values(alloc: Global, written: Seq<(Text, Value)>) -> Result<Seq<Valu
 fn arranged_copies(
     alloc: Global,
     fields: &[Text],
-    written: &[(Text, Value)],
+    written: &Scope<'_, Value>,
 ) -> Result<Seq<Value>, Memory>
     ensures { IfOk result (λ vs. vs ≡ spec.arranged fields.now written.now) }
 {
     let mut values = Seq::with_capacity(alloc, fields.len())?;
     for field in fields {
-        let value = match newest(written, field.as_str()) {
+        let value = match written.newest(field.as_str()) {
             Some(value) => value.try_copy()?,
             None => Value::Null,
         };

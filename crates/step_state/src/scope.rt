@@ -1,34 +1,34 @@
 ghost use Rattle.std.specs.Prelude.{◌≡◌, [], ◌∷◌, ◌++◌, length, take, OnOk, OnErr};
 ghost use Rattle.std.specs.Option.{option_copied};
 ghost use Rattle.operators.specs.Found.{found};
+ghost use Rattle.step_state.specs.Bound.{bound};
 
-use crate::finding::newest;
-use item_types::{Memory, Text, Value};
+use item_types::Memory;
 use std::alloc::Global;
 use std::marker::Model;
 
-/// The names in scope and their values, the newest last. A newer name hides an older one.
+/// The names in scope and their values, the newest last. A newer name hides an older one. The
+/// names are those of the tree that is evaluated.
 #[derive(Drop)]
-pub struct Scope {
-    entries: Vec<(Text, Value)>,
+pub struct Scope<'a, V> {
+    entries: Vec<(&'a str, V)>,
 }
 
-impl Model for Scope {
+impl<'a, V> Model for Scope<'a, V> {
     ghost use Rattle.std.specs.Prelude.{List, ℕ};
-    ghost use Rattle.item_types.specs.declared.value.Value.{Value as Held};
-    ghost use Rattle.item_types.specs.contracts.value.Value as value;
-    ghost use Rattle.std.specs.Coded.{codes};
+    ghost use Rattle.std.specs.Coded.{coded_list, coded×, coded_ℕ};
+    ghost use Rattle.step_state.specs.Bound.{bound};
 
-    ghost Value = { List (List ℕ × Held) };
+    ghost Value = { List (List ℕ × V) };
 
-    ghost coded = { Prim.hlevel (codes, value.the_row.coded) };
+    ghost coded = { coded_list (coded× (coded_list coded_ℕ) V.code) };
 
-    ghost view = { λ s. s.entries.items };
+    ghost view = { λ s. bound s.entries.items };
 }
 
-impl Scope {
+impl<'a, V: Drop> Scope<'a, V> {
     /// No name. It takes no memory.
-    pub fn new(alloc: Global) -> Scope
+    pub fn new(alloc: Global) -> Scope<'a, V>
         ensures { result ≡ [] }
     {
         Scope {
@@ -44,7 +44,7 @@ impl Scope {
     }
 
     /// The newest value of that name.
-    pub fn newest(&self, name: &str) -> Option<&Value>
+    pub fn newest(&self, name: &str) -> Option<&V>
         ensures { option_copied result ≡ found self.now name.now }
     {
         newest(self.entries.as_slice(), name)
@@ -54,8 +54,8 @@ impl Scope {
     ///
     /// # Errors
     /// `Memory` for want of memory: the scope is as before.
-    pub fn push(&mut self, name: Text, value: Value) -> Result<(), Memory>
-        ensures ok { OnOk result (self.new ≡ self.old ++ (name, value) ∷ []) }
+    pub fn push(&mut self, name: &'a str, value: V) -> Result<(), Memory>
+        ensures ok { OnOk result (self.new ≡ self.old ++ (name.now, value) ∷ []) }
         ensures err { OnErr result (self.new ≡ self.old) }
     {
         match self.entries.push((name, value)) {
@@ -64,10 +64,40 @@ impl Scope {
         }
     }
 
+    /// The names and their values, in order.
+    pub(crate) fn as_slice(&self) -> &[(&'a str, V)]
+        ensures { bound result.now ≡ self.now }
+    {
+        self.entries.as_slice()
+    }
+
+    /// The names and their values, in order.
+    pub(crate) fn into_entries(self) -> Vec<(&'a str, V)>
+        ensures { bound result.items ≡ self.entry }
+    {
+        let Scope { entries } = self;
+        entries
+    }
+
     /// Only the oldest names stay, that many.
+    #[tactic(auto, using(crate::proofs::Borrowed::take_bound))]
     pub fn truncate(&mut self, count: usize)
         ensures { self.new ≡ take count self.old }
     {
         self.entries.truncate(count);
     }
+}
+
+/// The value of the last entry of that name.
+pub(crate) fn newest<'a, 'b, V>(entries: &'b [(&'a str, V)], name: &str) -> Option<&'b V>
+    ensures { option_copied result ≡ found (bound entries.now) name.now }
+{
+    let count = entries.len();
+    for i in 0..count {
+        let entry = &entries[count - i - 1];
+        if entry.0 == name {
+            return Some(&entry.1);
+        }
+    }
+    None
 }

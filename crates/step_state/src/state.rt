@@ -7,7 +7,7 @@ use crate::measure::{size_of, size_of_all};
 use crate::outcome::Reason;
 use crate::scope::Scope;
 use crate::stop::Stop;
-use item_types::{ItemKind, Names, NodeId, Same, Seq, Shared, Text, Value};
+use item_types::{ItemKind, Names, NodeId, Seq, Shared, Text, Value};
 use recorder_proxy::Call;
 use std::alloc::Global;
 
@@ -30,8 +30,8 @@ const MAX_CALL_TEXT: u64 = 131_072;
 /// What an evaluation has come to: the names in scope, what it made, produced and recorded, and
 /// the sums that its limits are held against.
 #[derive(Drop)]
-pub struct State {
-    pub scope: Scope,
+pub struct State<'a> {
+    pub scope: Scope<'a, Value>,
     pub nodes: u32,
     pub turns: u32,
     pub cells: u64,
@@ -44,9 +44,9 @@ pub struct State {
     pub call_text: u64,
 }
 
-impl State {
+impl<'a> State<'a> {
     /// Nothing made, produced or recorded yet. It takes no memory.
-    pub fn new(alloc: Global) -> State
+    pub fn new(alloc: Global) -> State<'a>
         ensures { result ≡ spec.start }
     {
         State {
@@ -151,11 +151,10 @@ impl State {
     }
 
     /// A new name.
-    pub fn bind(&mut self, alloc: Global, name: &Text, value: Value) -> Result<(), Stop>
+    pub fn bind(&mut self, name: &'a Text, value: Value) -> Result<(), Stop>
         ensures { Evals (names_in.bind name.now value self.old) result self.new }
     {
-        let name = name.try_copy(alloc)?;
-        self.scope.push(name, value)?;
+        self.scope.push(name.as_str(), value)?;
         Ok(())
     }
 

@@ -1,7 +1,7 @@
 use Rattle.std.proofs.Common.{subst, sym}
 use Rattle.step_eval.specs.BoundedOutcome.{HasBoundedValues}
 use Rattle.step_state.specs.declared.outcome.Outcome.{Outcome}
-use Rattle.step_eval.proofs.Kept.{outcome_is_bounded}
+use Rattle.step_eval.proofs.Bounded.{outcome_is_bounded}
 use Rattle.step_eval.proofs.SteadyStatements.{done_is}
 use Rattle.step_eval.proofs.body.eval.Goals as goal
 

@@ -8,7 +8,7 @@ invariant-values_of-loop-part l = all (map (meaning l.cx) l.parts) l.fn.state �
 
 abbrev pub invariant-values_of_fields-loop-field : goal.invariant-values_of_fields-loop-field
 invariant-values_of_fields-loop-field l =
-    named (map (λ f. (f.0, meaning l.cx f.1)) l.fields) l.fn.state ≡ after l.out (named (map (λ f. (f.0, meaning l.cx f.1)) (drop l.field-index l.fields)) l.state)
+    named (map (λ f. (f.0, meaning l.cx f.1)) l.fields) l.fn.state ≡ after l.written (named (map (λ f. (f.0, meaning l.cx f.1)) (drop l.field-index l.fields)) l.state)
 
 abbrev pub invariant-both_of-loop-i : goal.invariant-both_of-loop-i
 invariant-both_of-loop-i l =
