@@ -11,7 +11,7 @@ use syntax_tree::Expr;
 
 /// Whether `fail null.f.f..;`, with 20,000 fields, fails at its first field.
 fn fails_at_its_first_field(alloc: Global) -> Result<bool, Memory> {
-    let chain = fields(alloc, Expr::Null { at: 1 }, 2, 20_000)?;
+    let chain = fields(alloc, Expr::Null { at: 1 }, "f", 2, 20_000)?;
     let found = outcome(alloc, one(alloc, failing(chain))?)?;
     Ok(fails(&found, Reason::Kind { at: 2 }))
 }

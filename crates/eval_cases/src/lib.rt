@@ -6,6 +6,8 @@
 #[cfg(test)]
 mod chains;
 #[cfg(test)]
+mod forms;
+#[cfg(test)]
 mod given;
 #[cfg(test)]
 mod limits;

@@ -1,12 +1,12 @@
 // The limits of an evaluation, from both sides.
 
 use crate::given::{ends, fails, outcome, outcome_of};
-use crate::trees::{bind, nested, nulls, one, sum, text, variable};
+use crate::trees::{bind, nested, nulls, one, sum, text};
 use item_types::{Memory, Seq, Value};
 use std::alloc::Global;
 use std::test::Fail;
 use step_eval::{Outcome, Reason};
-use syntax_tree::{Expr, Stmt};
+use syntax_tree::Expr;
 
 /// The outcome of `let a = e;`.
 fn binding(alloc: Global, value: Expr) -> Result<Outcome, Memory> {
@@ -32,29 +32,32 @@ fn a_step_makes_65_536_cells(rt: HostRuntime) -> Result<(), Fail> {
     Ok(())
 }
 
-/// `let a = a + a;`
-fn join(alloc: Global) -> Result<Stmt, Memory> {
-    let first = variable(alloc, 3, "a")?;
-    let second = variable(alloc, 5, "a")?;
-    let join = sum(alloc, first, 4, second)?;
-    bind(alloc, "a", join)
+/// The outcome of `let a = t;`, t a text of so many letters.
+fn literal(alloc: Global, count: usize) -> Result<Outcome, Memory> {
+    let letters = "x".repeat(alloc, count)?;
+    binding(alloc, text(alloc, 1, letters.as_str())?)
 }
 
-/// The outcome of a text of 16 letters that is joined with itself so many times.
-fn joins(alloc: Global, count: u32) -> Result<Outcome, Memory> {
-    let letters = text(alloc, 3, "sixteen letters.")?;
-    let first = bind(alloc, "a", letters)?;
-    let mut stmts = one(alloc, first)?;
-    for _i in 0..count {
-        stmts.push(join(alloc)?)?;
-    }
-    outcome(alloc, stmts)
+/// The outcome of `let a = s + t;`, s and t texts of so many letters.
+fn join(alloc: Global, first: usize, second: usize) -> Result<Outcome, Memory> {
+    let letters = "x".repeat(alloc, first)?;
+    let others = "x".repeat(alloc, second)?;
+    let a = text(alloc, 1, letters.as_str())?;
+    let b = text(alloc, 3, others.as_str())?;
+    binding(alloc, sum(alloc, a, 2, b)?)
 }
 
 #[test]
-fn a_text_has_65_535_bytes(rt: HostRuntime) -> Result<(), Fail> {
-    assert!(rt; ends(&joins(rt.alloc(), 11)?));
-    assert!(rt; fails(&joins(rt.alloc(), 12)?, Reason::TextTooLong));
+fn a_literal_has_65_535_bytes(rt: HostRuntime) -> Result<(), Fail> {
+    assert!(rt; ends(&literal(rt.alloc(), 65_535)?));
+    assert!(rt; fails(&literal(rt.alloc(), 65_536)?, Reason::TextTooLong));
+    Ok(())
+}
+
+#[test]
+fn a_join_has_65_535_bytes(rt: HostRuntime) -> Result<(), Fail> {
+    assert!(rt; ends(&join(rt.alloc(), 32_768, 32_767)?));
+    assert!(rt; fails(&join(rt.alloc(), 32_768, 32_768)?, Reason::TextTooLong));
     Ok(())
 }
 

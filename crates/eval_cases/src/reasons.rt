@@ -26,7 +26,7 @@ fn an_operation_fails_at_its_token(rt: HostRuntime) -> Result<(), Fail> {
     assert!(rt; fails(&found, Reason::Kind { at: 2 }));
     let found = failure(rt.alloc(), both(rt.alloc(), null(), 2, null())?)?;
     assert!(rt; fails(&found, Reason::Kind { at: 2 }));
-    let found = failure(rt.alloc(), fields(rt.alloc(), null(), 2, 1)?)?;
+    let found = failure(rt.alloc(), fields(rt.alloc(), null(), "f", 2, 1)?)?;
     assert!(rt; fails(&found, Reason::Kind { at: 2 }));
     let found = failure(rt.alloc(), null())?;
     assert!(rt; fails(&found, Reason::Kind { at: 0 }));

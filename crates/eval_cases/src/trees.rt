@@ -38,6 +38,66 @@ pub fn sum(alloc: Global, a: Expr, sign: u32, b: Expr) -> Result<Expr, Memory> {
     })
 }
 
+/// `a == b`
+pub fn equal(alloc: Global, a: Expr, sign: u32, b: Expr) -> Result<Expr, Memory> {
+    Ok(Expr::Equal {
+        left: Boxed::new(alloc, a)?,
+        sign,
+        right: Boxed::new(alloc, b)?,
+    })
+}
+
+/// `a < b`
+pub fn less(alloc: Global, a: Expr, sign: u32, b: Expr) -> Result<Expr, Memory> {
+    Ok(Expr::Less {
+        left: Boxed::new(alloc, a)?,
+        sign,
+        right: Boxed::new(alloc, b)?,
+    })
+}
+
+/// `len e`
+pub fn len(alloc: Global, inner: Expr) -> Result<Expr, Memory> {
+    Ok(Expr::Len {
+        at: 1,
+        inner: Boxed::new(alloc, inner)?,
+    })
+}
+
+/// `!e`
+pub fn not(alloc: Global, inner: Expr) -> Result<Expr, Memory> {
+    Ok(Expr::Not {
+        at: 1,
+        inner: Boxed::new(alloc, inner)?,
+    })
+}
+
+/// `(e)`
+pub fn paren(alloc: Global, inner: Expr) -> Result<Expr, Memory> {
+    Ok(Expr::Paren {
+        at: 1,
+        inner: Boxed::new(alloc, inner)?,
+    })
+}
+
+/// `[a, b]`
+pub fn pair(alloc: Global, a: Expr, b: Expr) -> Result<Expr, Memory> {
+    let parts = two(alloc, a, b)?;
+    Ok(Expr::ListOf { at: 1, parts })
+}
+
+/// `new B{n: a, k: b}`
+pub fn new_bean(alloc: Global, a: Expr, b: Expr) -> Result<Expr, Memory> {
+    let n = Text::of(alloc, "n")?;
+    let k = Text::of(alloc, "k")?;
+    let fields = two(alloc, (n, a), (k, b))?;
+    Ok(Expr::New {
+        at: 1,
+        bean: 0,
+        fields,
+    })
+}
+
 /// `a && b`
 pub fn both(alloc: Global, a: Expr, sign: u32, b: Expr) -> Result<Expr, Memory> {
     Ok(Expr::Both {
@@ -67,13 +127,13 @@ pub fn nested(alloc: Global, count: u32) -> Result<Expr, Memory> {
     Ok(e)
 }
 
-/// `e.f.f..`, with so many fields
-pub fn fields(alloc: Global, e: Expr, dot: u32, count: u32) -> Result<Expr, Memory> {
+/// `e.f.f..`, with so many fields of that name
+pub fn fields(alloc: Global, e: Expr, field: &str, dot: u32, count: u32) -> Result<Expr, Memory> {
     let mut links = Seq::new(alloc);
     for _i in 0..count {
         links.push(Link {
             dot,
-            field: Text::of(alloc, "f")?,
+            field: Text::of(alloc, field)?,
         })?;
     }
     Ok(Expr::Fields {
@@ -97,6 +157,16 @@ pub fn for_each(name: Text, list: Expr, block: Seq<Stmt>) -> Stmt {
         name,
         list,
         block,
+    }
+}
+
+/// `if e { .. } else { .. }`
+pub fn choose(cond: Expr, block: Seq<Stmt>, other: Option<Seq<Stmt>>) -> Stmt {
+    Stmt::If {
+        at: 0,
+        cond,
+        block,
+        other,
     }
 }
 
