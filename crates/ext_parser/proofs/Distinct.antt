@@ -13,7 +13,7 @@ use Rattle.name_index.specs.Place.{place, has}
 use Rattle.ext_parser.specs.Declarations.{number}
 use Rattle.ext_parser.specs.SecondWalk.{Checked, right, fresh, known_at, all_known}
 use Rattle.ext_parser.specs.declared.fault.ProjectFault.TheVariants.{Unknown}
-use Rattle.name_index.proofs.Places.{from-first}
+use Rattle.name_index.proofs.CallerLemmas.{from-first}
 use Rattle.project_fit.proofs.Apart.{and-true, and-parts}
 use Rattle.ext_parser.proofs.Apart.{fresh-not}
 use Rattle.ext_parser.proofs.Numbers.{both, known-number}

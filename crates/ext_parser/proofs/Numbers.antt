@@ -13,7 +13,7 @@ use Rattle.ext_draft.specs.declared.draft.Draft.{Draft}
 use Rattle.ext_draft.specs.declared.draft.DraftExtension.{DraftExtension}
 use Rattle.ext_draft.specs.declared.draft.DraftRecorder.{DraftRecorder}
 use Rattle.ext_draft.specs.declared.draft.DraftStep.{DraftStep}
-use Rattle.name_index.proofs.Places.{place-within}
+use Rattle.name_index.proofs.CallerLemmas.{place-within}
 use Rattle.ext_parser.specs.Declarations.{number, step_of, steps_of}
 use Rattle.ext_parser.specs.ProjectOfTheBytes.{project_of, project, texts_of}
 use Rattle.name_index.specs.Place.{place, has}

@@ -2,10 +2,12 @@ mod Right
 mod Words
 mod Tabled
 mod Stated
-pub mod Whole
-pub mod Texts
+mod Whole
+mod Texts
+mod Holding
 mod Parts
 mod Local
 mod LocalTabled
 mod LocalStated
 mod Bodies
+pub mod CallerLemmas

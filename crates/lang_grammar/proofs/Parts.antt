@@ -1,6 +1,6 @@
 -- What is read is a sentence of the tokens between both places.
 use Rattle.std.proofs.Common.{ℕ, Bool, List, subst}
-use Rattle.lang_tokens.specs.declared.token.Token.{Token}
+use Rattle.lang_lexer.specs.declared.token.Token.{Token}
 use Rattle.syntax_tree.specs.declared.tree.Expr.{Expr}
 use Rattle.syntax_tree.specs.declared.tree.Stmt.{Stmt}
 use Rattle.item_types.specs.declared.decl.Names.{Names}

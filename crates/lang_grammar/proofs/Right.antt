@@ -1,10 +1,10 @@
 -- What it is that a form is read rightly, and the words of forms that are.
 use Rattle.std.proofs.Common.{◌≡◌, ℕ, ℤ, ◌+◌, ◌<◌, Bool, true, false, List, [], ◌∷◌, ◌++◌, length, Ok, Err, refl, sym, ap, subst, ◌∙◌, append_assoc, arith, length-append, inl, inr, if◌then◌else◌}
 use Rattle.std.specs.Prelude.{◌||◌, Some}
-use Rattle.lang_tokens.specs.declared.token.Mark.{Mark}
-use Rattle.lang_tokens.specs.declared.token.Token.{Token}
-use Rattle.lang_tokens.specs.declared.token.Token.TheVariants.{Sign, Number, Str, Name}
-use Rattle.lang_tokens.proofs.Marked.{same_is, same_self}
+use Rattle.lang_lexer.specs.declared.token.Mark.{Mark}
+use Rattle.lang_lexer.specs.declared.token.Token.{Token}
+use Rattle.lang_lexer.specs.declared.token.Token.TheVariants.{Sign, Number, Str, Name}
+use Rattle.lang_lexer.proofs.CallerLemmas.{same_is, same_self}
 use Rattle.lang_grammar.specs.declared.fault.Fault.{Fault}
 use Rattle.lang_grammar.specs.Place.{Place, place, Outcome, Parser, and_then, is, begins, next, sees, refusal, refuse, ◌>>=◌, pure}
 use Rattle.lang_grammar.specs.Forms.{Form, nothing, give, number_here, one, sign, name, number, text, ◌⟫=◌}

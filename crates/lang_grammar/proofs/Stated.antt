@@ -1,16 +1,16 @@
 -- The statements are read rightly by the rules, form by form.
 use Rattle.std.proofs.Common.{◌≡◌, ℕ, zero, suc, Bool, true, false, List, [], refl, if◌then◌else◌}
 use Rattle.std.specs.Prelude.{◌||◌, not, Some, None}
-use Rattle.lang_tokens.specs.declared.token.Mark.TheVariants.{Let, Produce, For, In, If, Else, Call, Fail, Me, Static, Add, Print, Return, Semi, Comma, Dot, Open, Close, OpenBlock, CloseBlock, Assign}
-use Rattle.lang_tokens.specs.declared.token.Token.{Token}
-use Rattle.lang_tokens.specs.declared.token.Token.TheVariants.{Sign, Name}
+use Rattle.lang_lexer.specs.declared.token.Mark.TheVariants.{Let, Produce, For, In, If, Else, Call, Fail, Me, Static, Add, Print, Return, Semi, Comma, Dot, Open, Close, OpenBlock, CloseBlock, Assign}
+use Rattle.lang_lexer.specs.declared.token.Token.{Token}
+use Rattle.lang_lexer.specs.declared.token.Token.TheVariants.{Sign, Name}
 use Rattle.syntax_tree.specs.declared.tree.Invoke.{Invoke}
 use Rattle.syntax_tree.specs.declared.tree.Expr.{Expr}
 use Rattle.syntax_tree.specs.declared.tree.Stmt.{Stmt}
 use Rattle.syntax_tree.specs.declared.tree.Stmt.TheVariants as b
 use Rattle.item_types.specs.declared.decl.Names.{Names}
 use Rattle.lang_grammar.specs.Place.{Parser, is, sees, ◌>>=◌, pure}
-use Rattle.lang_grammar.specs.Naming.{item_number, recorder_number, method_number}
+use Rattle.syntax_tree.specs.Naming.{item_number, recorder_number, method_number}
 use Rattle.lang_grammar.specs.Forms.{Form, give, sign, name, ◌⟫=◌, many, allowed, opening, listing}
 use Rattle.lang_grammar.specs.Table as table
 use Rattle.lang_grammar.specs.Rules as rules

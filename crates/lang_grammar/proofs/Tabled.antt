@@ -1,15 +1,15 @@
 -- The table of forms is read rightly by the rules, form by form.
 use Rattle.std.proofs.Common.{◌≡◌, ℕ, zero, suc, Bool, true, false, List, [], ◌∷◌, Ok, refl, ap, subst, ◌∙◌, if◌then◌else◌}
 use Rattle.std.specs.Prelude.{◌||◌, not, Some}
-use Rattle.lang_tokens.specs.declared.token.Mark.TheVariants.{Get, All, New, Len, True, False, Null, Me, Static, Dot, Colon, Open, Close, OpenList, CloseList, OpenBlock, CloseBlock, Equal, Less, Plus, Bang, And}
-use Rattle.lang_tokens.specs.declared.token.Token.{Token}
-use Rattle.lang_tokens.specs.declared.token.Token.TheVariants.{Sign, Number, Str, Name}
+use Rattle.lang_lexer.specs.declared.token.Mark.TheVariants.{Get, All, New, Len, True, False, Null, Me, Static, Dot, Colon, Open, Close, OpenList, CloseList, OpenBlock, CloseBlock, Equal, Less, Plus, Bang, And}
+use Rattle.lang_lexer.specs.declared.token.Token.{Token}
+use Rattle.lang_lexer.specs.declared.token.Token.TheVariants.{Sign, Number, Str, Name}
 use Rattle.syntax_tree.specs.declared.tree.Link.{Link}
 use Rattle.syntax_tree.specs.declared.tree.Expr.{Expr}
 use Rattle.syntax_tree.specs.declared.tree.Expr.TheVariants as e
 use Rattle.item_types.specs.declared.decl.Names.{Names}
 use Rattle.lang_grammar.specs.Place.{Parser, is, begins, refuse, ◌>>=◌, pure}
-use Rattle.lang_grammar.specs.Naming.{item_number, bean_number}
+use Rattle.syntax_tree.specs.Naming.{item_number, bean_number}
 use Rattle.lang_grammar.specs.Forms.{Form, nothing, give, sign, name, number, text, ◌⟫=◌, by_first, optional, more, opening, listing}
 use Rattle.lang_grammar.specs.Table as table
 use Rattle.lang_grammar.specs.Table.{compares}

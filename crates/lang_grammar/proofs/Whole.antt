@@ -1,7 +1,7 @@
 -- Tokens are a body, or stuck at one of them, and never both.
 use Rattle.std.proofs.Common.{◌≡◌, ℕ, ◌<◌, Bool, List, [], ◌∷◌, ◌++◌, length, Result, Ok, Err, refl, sym, ap, subst, ◌∙◌, ◌⊎◌, inl, inr, arith}
 use Rattle.std.proofs.lemmas.List.{append-nil}
-use Rattle.lang_tokens.specs.declared.token.Token.{Token}
+use Rattle.lang_lexer.specs.declared.token.Token.{Token}
 use Rattle.syntax_tree.specs.declared.tree.Stmt.{Stmt}
 use Rattle.item_types.specs.declared.decl.Names.{Names}
 use Rattle.lang_grammar.specs.declared.fault.Fault.{Fault}

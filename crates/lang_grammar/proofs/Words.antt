@@ -2,10 +2,10 @@
 use Rattle.std.proofs.Common.{◌≡◌, ℕ, zero, suc, ◌+◌, ◌<◌, ◌≤◌, Bool, true, false, List, [], ◌∷◌, ◌++◌, length, Ok, Err, refl, sym, ap, subst, ◌∙◌, append_assoc, arith, length-append, inl, inr, if◌then◌else◌}
 use Rattle.std.specs.Prelude.{◌||◌, not, map, Option, Some, None}
 use Rattle.std.proofs.lemmas.List.{append-nil}
-use Rattle.lang_tokens.specs.declared.token.Mark.{Mark}
-use Rattle.lang_tokens.specs.declared.token.Mark.TheVariants.{Comma}
-use Rattle.lang_tokens.specs.declared.token.Token.{Token}
-use Rattle.lang_tokens.specs.declared.token.Token.TheVariants.{Sign, Name}
+use Rattle.lang_lexer.specs.declared.token.Mark.{Mark}
+use Rattle.lang_lexer.specs.declared.token.Mark.TheVariants.{Comma}
+use Rattle.lang_lexer.specs.declared.token.Token.{Token}
+use Rattle.lang_lexer.specs.declared.token.Token.TheVariants.{Sign, Name}
 use Rattle.lang_grammar.specs.declared.fault.Fault.{Fault}
 use Rattle.lang_grammar.specs.Place.{Place, place, Outcome, Parser, and_then, is, begins, first_of, first, sees, refusal, ◌>>=◌, pure}
 use Rattle.lang_grammar.specs.Forms.{Form, give, number_here, sign, name, number, text, ◌⟫=◌, by_first, optional, choose, AreAll, Passes, more, allowed, opening, listing, signed, chain}

@@ -1,9 +1,9 @@
 -- What a form is, and the words that forms are made of. Each word says three things: which trees its sentences are, how far it is read from a place, and where it is stuck. This project's own.
 use Rattle.std.specs.Prelude.{◌≡◌, ℕ, ℤ, zero, suc, ◌+◌, Bool, true, false, List, [], ◌∷◌, ◌++◌, length, ◌⊎◌, map}
-use Rattle.lang_tokens.specs.declared.token.Mark.{Mark}
-use Rattle.lang_tokens.specs.declared.token.Mark.TheVariants.{Comma}
-use Rattle.lang_tokens.specs.declared.token.Token.{Token}
-use Rattle.lang_tokens.specs.declared.token.Token.TheVariants.{Sign, Number, Str, Name}
+use Rattle.lang_lexer.specs.declared.token.Mark.{Mark}
+use Rattle.lang_lexer.specs.declared.token.Mark.TheVariants.{Comma}
+use Rattle.lang_lexer.specs.declared.token.Token.{Token}
+use Rattle.lang_lexer.specs.declared.token.Token.TheVariants.{Sign, Number, Str, Name}
 use Rattle.lang_grammar.specs.declared.fault.Fault.{Fault}
 use Rattle.lang_grammar.specs.Place.{Place, place, is, begins, refusal}
 

@@ -1,6 +1,5 @@
 pub mod Place
 pub mod Forms
-pub mod Naming
 pub mod Table
 pub mod Sentence
 pub mod Rules

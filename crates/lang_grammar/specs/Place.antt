@@ -1,10 +1,10 @@
 -- A place among the tokens, and the answers of what reads from a place. This project's own.
 use Rattle.std.specs.Prelude.{◌≡◌, ℕ, ◌+◌, Bool, false, ◌&&◌, ◌||◌, if◌then◌else◌, ◌==◌, List, [], ◌∷◌, Option, Some, None, Result, Ok, Err}
-use Rattle.lang_tokens.specs.declared.token.Mark.{Mark}
-use Rattle.lang_tokens.specs.declared.token.Mark.TheVariants.{Bang, Len, Open, OpenList, OpenBlock}
-use Rattle.lang_tokens.specs.declared.token.Token.{Token}
-use Rattle.lang_tokens.specs.declared.token.Token.TheVariants.{Sign}
-use Rattle.lang_tokens.specs.Marks.{same}
+use Rattle.lang_lexer.specs.declared.token.Mark.{Mark}
+use Rattle.lang_lexer.specs.declared.token.Mark.TheVariants.{Bang, Len, Open, OpenList, OpenBlock}
+use Rattle.lang_lexer.specs.declared.token.Token.{Token}
+use Rattle.lang_lexer.specs.declared.token.Token.TheVariants.{Sign}
+use Rattle.lang_lexer.specs.Marks.{same}
 use Rattle.lang_grammar.specs.declared.fault.Fault.{Fault}
 use Rattle.lang_grammar.specs.declared.fault.Fault.TheVariants.{Syntax, TooDeep}
 use Rattle.lang_grammar.specs.declared.fault.ParseError.{ParseError}

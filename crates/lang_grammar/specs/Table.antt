@@ -1,8 +1,8 @@
 -- The table of forms of the language: bodies of steps and of recorders' methods. This project's own.
 use Rattle.std.specs.Prelude.{ℕ, zero, suc, Bool, true, false, not, ◌||◌, List, [], ◌∷◌, Option, Some, None}
-use Rattle.lang_tokens.specs.declared.token.Mark.TheVariants.{Let, Produce, For, In, If, Else, Call, Fail, Get, All, New, Len, True, False, Null, Me, Static, Add, Print, Return, Semi, Comma, Dot, Colon, Open, Close, OpenList, CloseList, OpenBlock, CloseBlock, Assign, Equal, Less, Plus, Bang, And}
-use Rattle.lang_tokens.specs.declared.token.Token.{Token}
-use Rattle.lang_tokens.specs.declared.token.Token.TheVariants.{Sign, Number, Str, Name}
+use Rattle.lang_lexer.specs.declared.token.Mark.TheVariants.{Let, Produce, For, In, If, Else, Call, Fail, Get, All, New, Len, True, False, Null, Me, Static, Add, Print, Return, Semi, Comma, Dot, Colon, Open, Close, OpenList, CloseList, OpenBlock, CloseBlock, Assign, Equal, Less, Plus, Bang, And}
+use Rattle.lang_lexer.specs.declared.token.Token.{Token}
+use Rattle.lang_lexer.specs.declared.token.Token.TheVariants.{Sign, Number, Str, Name}
 use Rattle.syntax_tree.specs.declared.tree.Link.{Link}
 use Rattle.syntax_tree.specs.declared.tree.Invoke.{Invoke}
 use Rattle.syntax_tree.specs.declared.tree.Expr.{Expr}
@@ -12,7 +12,7 @@ use Rattle.syntax_tree.specs.declared.tree.Stmt.TheVariants as b
 use Rattle.item_types.specs.declared.decl.Names.{Names}
 use Rattle.lang_grammar.specs.Place.{is}
 use Rattle.lang_grammar.specs.Forms.{Form, nothing, give, number_here, sign, name, number, text, ◌⟫=◌, by_first, optional, choose, more, many, allowed, opening, listing, chain}
-use Rattle.lang_grammar.specs.Naming.{item_number, bean_number, recorder_number, method_number}
+use Rattle.syntax_tree.specs.Naming.{item_number, bean_number, recorder_number, method_number}
 
 -- the signs of a comparison
 abbrev pub compares : Token → Bool

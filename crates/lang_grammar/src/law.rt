@@ -1,5 +1,5 @@
 ghost use Rattle.std.specs.Prelude.{◌≡◌, ◌∷◌, ◌++◌, ◌⊎◌, ℕ, Bool, List, length};
-ghost use Rattle.lang_tokens.specs.declared.token.Token.{Token};
+ghost use Rattle.lang_lexer.specs.declared.token.Token.{Token};
 ghost use Rattle.item_types.specs.declared.decl.Names.{Names};
 ghost use Rattle.syntax_tree.specs.declared.tree.Expr.{Expr};
 ghost use Rattle.syntax_tree.specs.declared.tree.Stmt.{Stmt};

@@ -1,6 +1,6 @@
 -- One turn of the lexer.
 use Rattle.std.proofs.Common.{◌≡◌, ℕ, suc, ◌<◌, Bool, false, List, [], ◌∷◌, ◌++◌, length, Option, Some, None, refl, sym, ap, ◌∙◌, arith}
-use Rattle.lang_tokens.specs.declared.token.Token.{Token}
+use Rattle.lang_lexer.specs.declared.token.Token.{Token}
 use Rattle.lang_lexer.specs.Tokens.{go_on, tokens_from, skip, token}
 
 go_none : (next : List Token → List ℕ → List Token × Bool) (found : List Token) (bs : List ℕ) → 0 < length bs → go_on next found bs None ≡ (found, false)

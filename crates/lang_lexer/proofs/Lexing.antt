@@ -2,7 +2,7 @@
 use Rattle.std.proofs.Common.{◌≡◌, ℕ, zero, suc, ◌+◌, ◌<◌, ◌≤◌, Bool, true, false, List, [], ◌∷◌, ◌++◌, length, refl, sym, ap, subst, ◌∙◌, arith, append_assoc, length-append, take, drop}
 use Rattle.std.specs.Prelude.{Option, Some, None}
 use Rattle.std.proofs.lemmas.List.{append-nil, take_at, drop_at}
-use Rattle.lang_tokens.specs.declared.token.Token.{Token}
+use Rattle.lang_lexer.specs.declared.token.Token.{Token}
 use Rattle.lang_lexer.specs.Tokens.{token, is_blank, skip, go_on, tokens_from, tokens}
 use Rattle.lang_lexer.specs.Kinds.{IsToken, IsLongest, AreTokens, over, stuck, more}
 use Rattle.lang_lexer.proofs.Written.{Takes, takes, one_token, if_true, if_false, some_none}

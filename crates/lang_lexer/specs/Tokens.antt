@@ -1,9 +1,9 @@
 -- The tokens of a text, given by its characters. This project's own.
 use Rattle.std.specs.Prelude.{ℕ, ℤ, pos, negsuc, zero, suc, ◌+◌, ◌^◌, Bool, true, false, ◌&&◌, ◌||◌, if◌then◌else◌, ◌==◌, nat_le, List, [], ◌∷◌, ◌++◌, length, take, drop, Option, Some, None}
-use Rattle.lang_tokens.specs.declared.token.Mark.{Mark}
-use Rattle.lang_tokens.specs.declared.token.Mark.TheVariants.{Semi, Comma, Dot, Colon, Open, Close, OpenList, CloseList, OpenBlock, CloseBlock, Assign, Equal, Less, Plus, Bang, And}
-use Rattle.lang_tokens.specs.declared.token.Token.{Token}
-use Rattle.lang_tokens.specs.declared.token.Token.TheVariants.{Sign, Number, Str}
+use Rattle.lang_lexer.specs.declared.token.Mark.{Mark}
+use Rattle.lang_lexer.specs.declared.token.Mark.TheVariants.{Semi, Comma, Dot, Colon, Open, Close, OpenList, CloseList, OpenBlock, CloseBlock, Assign, Equal, Less, Plus, Bang, And}
+use Rattle.lang_lexer.specs.declared.token.Token.{Token}
+use Rattle.lang_lexer.specs.declared.token.Token.TheVariants.{Sign, Number, Str}
 use Rattle.lang_lexer.specs.declared.quoted.Quoting.TheVariants.{Plain}
 use Rattle.lang_lexer.specs.Words.{is_digit, is_letter, name_len, word}
 use Rattle.lang_lexer.specs.Numbers.{digits, digit_value}

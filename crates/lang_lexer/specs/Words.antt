@@ -1,10 +1,10 @@
 -- Names and keywords, given by their characters. This project's own.
 use Rattle.std.specs.Prelude.{ℕ, ◌+◌, Bool, ◌&&◌, ◌||◌, if◌then◌else◌, ◌==◌, nat_le, List, [], ◌∷◌, codes, take, Option, Some, None}
 use Rattle.std.specs.Str.{bytes_eq, encode_utf8_all}
-use Rattle.lang_tokens.specs.declared.token.Mark.{Mark}
-use Rattle.lang_tokens.specs.declared.token.Mark.TheVariants.{Let, Produce, For, In, If, Else, Call, Fail, Get, All, New, Len, True, False, Null, Me, Static, Add, Print, Return}
-use Rattle.lang_tokens.specs.declared.token.Token.{Token}
-use Rattle.lang_tokens.specs.declared.token.Token.TheVariants.{Sign, Name}
+use Rattle.lang_lexer.specs.declared.token.Mark.{Mark}
+use Rattle.lang_lexer.specs.declared.token.Mark.TheVariants.{Let, Produce, For, In, If, Else, Call, Fail, Get, All, New, Len, True, False, Null, Me, Static, Add, Print, Return}
+use Rattle.lang_lexer.specs.declared.token.Token.{Token}
+use Rattle.lang_lexer.specs.declared.token.Token.TheVariants.{Sign, Name}
 
 abbrev pub is_digit : ℕ → Bool
 is_digit c = nat_le 48 c && nat_le c 57
@@ -50,6 +50,28 @@ keyword w =
     if bytes_eq w (codes "fail") then Some Fail else (
     if bytes_eq w (codes "get") then Some Get else (
     if bytes_eq w (codes "all") then Some All else late_keyword w)))))))))
+
+-- the keyword of three letters or more with this first and this third one: there is one at most
+abbrev pub by_letters : ℕ → ℕ → Option Mark
+by_letters first third =
+    if first == 108 then Some (if third == 116 then Let else Len) else (
+    if first == 112 then Some (if third == 111 then Produce else Print) else (
+    if first == 102 then Some (if third == 114 then For else (if third == 105 then Fail else False)) else (
+    if first == 101 then Some Else else (
+    if first == 99 then Some Call else (
+    if first == 103 then Some Get else (
+    if first == 97 then Some (if third == 108 then All else Add) else (
+    if first == 110 then Some (if third == 119 then New else Null) else (
+    if first == 116 then Some True else (
+    if first == 115 then Some (if third == 108 then Me else Static) else (
+    if first == 114 then Some Return else None))))))))))
+
+-- the one keyword that these letters can be
+abbrev pub likely : List ℕ → Option Mark
+likely [] = None
+likely (a ∷ []) = None
+likely (a ∷ b ∷ []) = Some (if b == 110 then In else If)
+likely (a ∷ b ∷ c ∷ cs) = by_letters a c
 
 abbrev pub word_by : List ℕ → Option Mark → Token
 word_by w None = Name w

@@ -9,7 +9,7 @@ pub(crate) fn chars_of(alloc: Global, text: &str) -> Result<Seq<char>, Memory>
     ensures all { IfOk result (λ cs. cs ≡ chars text.now) }
     ensures few { IfOk result (λ cs. length cs ≤ length text.now) }
 {
-    let mut found = Seq::new(alloc);
+    let mut found = Seq::with_capacity(alloc, text.len())?;
     for c in text.chars() {
         found.push(c)?;
     }
@@ -20,7 +20,7 @@ pub(crate) fn chars_of(alloc: Global, text: &str) -> Result<Seq<char>, Memory>
 pub(crate) fn text_of(alloc: Global, chars: &[char]) -> Result<Text, Memory>
     ensures { IfOk result (λ t. t ≡ encode_utf8_all chars.now) }
 {
-    let mut text = String::new(alloc);
+    let mut text = String::with_capacity(alloc, chars.len())?;
     for c in chars {
         text.push(*c)?;
     }

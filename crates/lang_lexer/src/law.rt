@@ -1,5 +1,5 @@
 ghost use Rattle.std.specs.Prelude.{◌≡◌, ℕ, Bool, List};
-ghost use Rattle.lang_tokens.specs.declared.token.Token.{Token};
+ghost use Rattle.lang_lexer.specs.declared.token.Token.{Token};
 ghost use Rattle.lang_lexer.specs.Kinds.{IsToken, AreTokens};
 ghost use Rattle.lang_lexer.specs.Tokens.{tokens};
 

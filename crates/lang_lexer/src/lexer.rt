@@ -3,9 +3,9 @@ ghost use Rattle.std.specs.Str.{chars};
 ghost use Rattle.lang_lexer.specs.Tokens as spec;
 
 use crate::chars::chars_of;
-use crate::token::token;
+use crate::front::token;
+use crate::token::Token;
 use item_types::{Memory, Seq};
-use lang_tokens::Token;
 use std::alloc::Global;
 
 fn is_blank(c: char) -> bool
@@ -33,7 +33,7 @@ fn tokens_of(alloc: Global, chars: &[char]) -> Result<(Seq<Token>, bool), Memory
     ensures all { IfOk result (λ x. spec.tokens chars.now ≡ (x.0, x.1)) }
     ensures few { IfOk result (λ x. length x.0 ≤ length chars.now) }
 {
-    let mut found = Seq::new(alloc);
+    let mut found = Seq::with_capacity(alloc, chars.len() / 2)?;
     let mut rest = chars;
     for _turn in 0..chars.len() + 1 {
         let front = skip(rest);

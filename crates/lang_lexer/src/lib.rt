@@ -6,6 +6,7 @@
 #![tactic(auto)]
 
 mod chars;
+mod front;
 mod law;
 mod lexer;
 mod number;
@@ -15,3 +16,4 @@ mod word;
 
 pub use law::longest_tokens;
 pub use lexer::tokens;
+pub use token::{Mark, Token, told_apart};

@@ -1,132 +1,197 @@
-ghost use Rattle.std.specs.Prelude.{◌≡◌, ◌<◌, ◌≤◌, ◌^◌, length, IfOk, IfSome, option_map};
-ghost use Rattle.lang_lexer.specs.Tokens as spec;
-ghost use Rattle.lang_lexer.specs.Words.{name_len};
+ghost use Rattle.std.specs.Prelude.{◌≡◌, IsTrue};
+ghost use Rattle.lang_lexer.specs.declared.token.Mark.{Mark};
+ghost use Rattle.lang_lexer.specs.Marks.{code, same, written};
 
-use crate::number::{digit_value, digits};
-use crate::quoted::quoted;
-use crate::word::{is_digit, is_letter, name_len, word};
-use item_types::Memory;
-use lang_tokens::{Mark, Token};
-use std::alloc::Global;
+use item_types::Text;
 
-/// The sign of one character.
-fn sign(c: char) -> Option<Mark>
-    ensures { result ≡ spec.sign c }
-{
-    match c {
-        ';' => Some(Mark::Semi),
-        ',' => Some(Mark::Comma),
-        '.' => Some(Mark::Dot),
-        ':' => Some(Mark::Colon),
-        '(' => Some(Mark::Open),
-        ')' => Some(Mark::Close),
-        '[' => Some(Mark::OpenList),
-        ']' => Some(Mark::CloseList),
-        '{' => Some(Mark::OpenBlock),
-        '}' => Some(Mark::CloseBlock),
-        '=' => Some(Mark::Assign),
-        '<' => Some(Mark::Less),
-        '+' => Some(Mark::Plus),
-        '!' => Some(Mark::Bang),
-        _ => None,
-    }
+/// A keyword or a sign of the language.
+#[derive(Clone, Copy, Debug, PartialEq, Eq)]
+pub enum Mark {
+    /// `let`
+    Let,
+    /// `produce`
+    Produce,
+    /// `for`
+    For,
+    /// `in`
+    In,
+    /// `if`
+    If,
+    /// `else`
+    Else,
+    /// `call`
+    Call,
+    /// `fail`
+    Fail,
+    /// `get`
+    Get,
+    /// `all`
+    All,
+    /// `new`
+    New,
+    /// `len`
+    Len,
+    /// `true`
+    True,
+    /// `false`
+    False,
+    /// `null`
+    Null,
+    /// `self`
+    Me,
+    /// `static`
+    Static,
+    /// `add`
+    Add,
+    /// `print`
+    Print,
+    /// `return`
+    Return,
+    /// `;`
+    Semi,
+    /// `,`
+    Comma,
+    /// `.`
+    Dot,
+    /// `:`
+    Colon,
+    /// `(`
+    Open,
+    /// `)`
+    Close,
+    /// `[`
+    OpenList,
+    /// `]`
+    CloseList,
+    /// `{`
+    OpenBlock,
+    /// `}`
+    CloseBlock,
+    /// `=`
+    Assign,
+    /// `==`
+    Equal,
+    /// `<`
+    Less,
+    /// `+`
+    Plus,
+    /// `!`
+    Bang,
+    /// `&&`
+    And,
 }
 
-fn one_sign(c: char, rest: &[char]) -> Option<(Token, &[char])>
-    ensures front { option_map (λ x. (x.0, x.1.now)) result ≡ spec.sign_token (spec.sign c) rest.now }
-    ensures shorter { IfSome result (λ x. length x.1.now ≤ length rest.now) }
-{
-    match sign(c) {
-        Some(mark) => Some((Token::Sign(mark), rest)),
-        None => None,
-    }
+/// A token.
+#[derive(Debug, Drop)]
+pub enum Token {
+    /// A keyword or a sign.
+    Sign(Mark),
+    /// A whole number.
+    Number(i64),
+    /// A quoted text, by what it says.
+    Str(Text),
+    /// A name.
+    Name(Text),
 }
 
-/// The sign that begins so, and what follows it.
-fn sign_from(c: char, rest: &[char]) -> Option<(Token, &[char])>
-    ensures front { option_map (λ x. (x.0, x.1.now)) result ≡ spec.signed_by c rest.now }
-    ensures shorter { IfSome result (λ x. length x.1.now ≤ length rest.now) }
-{
-    match rest {
-        [] => one_sign(c, rest),
-        [d, after @ ..] => {
-            if c == '=' && *d == '=' {
-                Some((Token::Sign(Mark::Equal), after))
-            } else if c == '&' && *d == '&' {
-                Some((Token::Sign(Mark::And), after))
-            } else {
-                one_sign(c, rest)
-            }
+impl Mark {
+    /// Whether both are the same.
+    pub fn same(self, other: Mark) -> bool
+        ensures { result ≡ same self other }
+    {
+        self.code() == other.code()
+    }
+
+    /// How it is written.
+    pub fn written(self) -> &'static str
+        ensures { result.now ≡ written self }
+    {
+        match self {
+            Mark::Let => "let",
+            Mark::Produce => "produce",
+            Mark::For => "for",
+            Mark::In => "in",
+            Mark::If => "if",
+            Mark::Else => "else",
+            Mark::Call => "call",
+            Mark::Fail => "fail",
+            Mark::Get => "get",
+            Mark::All => "all",
+            Mark::New => "new",
+            Mark::Len => "len",
+            Mark::True => "true",
+            Mark::False => "false",
+            Mark::Null => "null",
+            Mark::Me => "self",
+            Mark::Static => "static",
+            Mark::Add => "add",
+            Mark::Print => "print",
+            Mark::Return => "return",
+            Mark::Semi => ";",
+            Mark::Comma => ",",
+            Mark::Dot => ".",
+            Mark::Colon => ":",
+            Mark::Open => "(",
+            Mark::Close => ")",
+            Mark::OpenList => "[",
+            Mark::CloseList => "]",
+            Mark::OpenBlock => "{",
+            Mark::CloseBlock => "}",
+            Mark::Assign => "=",
+            Mark::Equal => "==",
+            Mark::Less => "<",
+            Mark::Plus => "+",
+            Mark::Bang => "!",
+            Mark::And => "&&",
+        }
+    }
+
+    fn code(self) -> u8
+        ensures { result ≡ code self }
+    {
+        match self {
+            Mark::Let => 0,
+            Mark::Produce => 1,
+            Mark::For => 2,
+            Mark::In => 3,
+            Mark::If => 4,
+            Mark::Else => 5,
+            Mark::Call => 6,
+            Mark::Fail => 7,
+            Mark::Get => 8,
+            Mark::All => 9,
+            Mark::New => 10,
+            Mark::Len => 11,
+            Mark::True => 12,
+            Mark::False => 13,
+            Mark::Null => 14,
+            Mark::Me => 15,
+            Mark::Static => 16,
+            Mark::Add => 17,
+            Mark::Print => 18,
+            Mark::Return => 19,
+            Mark::Semi => 20,
+            Mark::Comma => 21,
+            Mark::Dot => 22,
+            Mark::Colon => 23,
+            Mark::Open => 24,
+            Mark::Close => 25,
+            Mark::OpenList => 26,
+            Mark::CloseList => 27,
+            Mark::OpenBlock => 28,
+            Mark::CloseBlock => 29,
+            Mark::Assign => 30,
+            Mark::Equal => 31,
+            Mark::Less => 32,
+            Mark::Plus => 33,
+            Mark::Bang => 34,
+            Mark::And => 35,
         }
     }
 }
 
-/// The number below 0 behind a minus, and what follows it.
-fn negative(chars: &[char]) -> Option<(Token, &[char])>
-    ensures front { option_map (λ x. (x.0, x.1.now)) result ≡ spec.negative chars.now }
-    ensures shorter { IfSome result (λ x. length x.1.now < length chars.now) }
-{
-    match chars {
-        [c, rest @ ..] if '1' <= *c && *c <= '9' => {
-            let (value, rest) = digits(digit_value(*c), 9_223_372_036_854_775_809, rest);
-            Some((Token::Number(minus(value)), rest))
-        }
-        _ => None,
-    }
-}
-
-/// The number that is so much below 0.
-fn minus(value: u64) -> i64
-    requires { value ≤ 2 ^ 63 }
-    ensures { result ≡ spec.minus value }
-{
-    if value == 0 {
-        return 0;
-    }
-    -1 - (value - 1) as i64
-}
-
-/// The number at the front, and what follows it.
-fn positive(first: char, rest: &[char]) -> (Token, &[char])
-    requires { first < 58 }
-    ensures front { (result.0, result.1.now) ≡ spec.positive first rest.now }
-    ensures shorter { length result.1.now ≤ length rest.now }
-{
-    if first == '0' {
-        return (Token::Number(0), rest);
-    }
-    let (value, rest) = digits(digit_value(first), 9_223_372_036_854_775_808, rest);
-    (Token::Number(value as i64), rest)
-}
-
-/// The keyword or name at the front, and what follows it.
-fn word_from(alloc: Global, chars: &[char]) -> Result<(Token, &[char]), Memory>
-    requires { 0 < name_len chars.now }
-    ensures front { IfOk result (λ x. (x.0, x.1.now) ≡ spec.word_from chars.now) }
-    ensures shorter { IfOk result (λ x. length x.1.now < length chars.now) }
-{
-    let (front, rest) = chars.split_at(name_len(chars));
-    let found = word(alloc, front)?;
-    Ok((found, rest))
-}
-
-/// The token at the front, and what follows it.
-pub(crate) fn token(alloc: Global, chars: &[char]) -> Result<Option<(Token, &[char])>, Memory>
-    ensures front { IfOk result (λ o. option_map (λ x. (x.0, x.1.now)) o ≡ spec.token chars.now) }
-    ensures shorter { IfOk result (λ o. IfSome o (λ x. length x.1.now < length chars.now)) }
-{
-    match chars {
-        [] => Ok(None),
-        ['"', rest @ ..] => match quoted(alloc, rest)? {
-            None => Ok(None),
-            Some((text, rest)) => Ok(Some((Token::Str(text), rest))),
-        },
-        ['-', rest @ ..] => Ok(negative(rest)),
-        [c, rest @ ..] if is_digit(*c) => Ok(Some(positive(*c, rest))),
-        [c, ..] if is_letter(*c) => {
-            let (found, rest) = word_from(alloc, chars)?;
-            Ok(Some((found, rest)))
-        }
-        [c, rest @ ..] => Ok(sign_from(*c, rest)),
-    }
-}
+/// Two keywords or signs are told apart exactly where they differ.
+pub fn told_apart()
+    ensures only { (a b : Mark) → IsTrue (same a b) → a ≡ b }
+    ensures itself { (m : Mark) → IsTrue (same m m) }
+{}

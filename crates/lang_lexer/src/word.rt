@@ -1,9 +1,10 @@
-ghost use Rattle.std.specs.Prelude.{◌≡◌, ◌≤◌, length, take, IfOk};
+ghost use Rattle.std.specs.Prelude.{◌≡◌, ◌≤◌, ◌↔◌, length, take, IfOk, IsTrue};
+ghost use Rattle.std.specs.Str.{encode_utf8_all};
 ghost use Rattle.lang_lexer.specs.Words as spec;
 
 use crate::chars::text_of;
+use crate::token::{Mark, Token};
 use item_types::Memory;
-use lang_tokens::{Mark, Token};
 use std::alloc::Global;
 
 /// The most characters of a name.
@@ -61,60 +62,73 @@ pub(crate) fn name_len(chars: &[char]) -> usize
     run_len(front(chars, LONGEST))
 }
 
-/// The keyword that is written so.
-fn keyword(word: &str) -> Option<Mark>
-    ensures { result ≡ spec.keyword word.now }
+/// The keyword of three letters or more with this first and this third one: there is one at most.
+fn by_letters(first: char, third: char) -> Option<Mark>
+    ensures { result ≡ spec.by_letters first third }
 {
-    if word == "let" {
-        Some(Mark::Let)
-    } else if word == "produce" {
-        Some(Mark::Produce)
-    } else if word == "for" {
-        Some(Mark::For)
-    } else if word == "in" {
-        Some(Mark::In)
-    } else if word == "if" {
-        Some(Mark::If)
-    } else if word == "else" {
-        Some(Mark::Else)
-    } else if word == "call" {
-        Some(Mark::Call)
-    } else if word == "fail" {
-        Some(Mark::Fail)
-    } else if word == "get" {
-        Some(Mark::Get)
-    } else if word == "all" {
-        Some(Mark::All)
-    } else {
-        late_keyword(word)
+    match first {
+        'l' => Some(if third == 't' { Mark::Let } else { Mark::Len }),
+        'p' => Some(if third == 'o' {
+            Mark::Produce
+        } else {
+            Mark::Print
+        }),
+        'f' => Some(match third {
+            'r' => Mark::For,
+            'i' => Mark::Fail,
+            _ => Mark::False,
+        }),
+        'e' => Some(Mark::Else),
+        'c' => Some(Mark::Call),
+        'g' => Some(Mark::Get),
+        'a' => Some(if third == 'l' { Mark::All } else { Mark::Add }),
+        'n' => Some(if third == 'w' { Mark::New } else { Mark::Null }),
+        't' => Some(Mark::True),
+        's' => Some(if third == 'l' { Mark::Me } else { Mark::Static }),
+        'r' => Some(Mark::Return),
+        _ => None,
     }
 }
 
-fn late_keyword(word: &str) -> Option<Mark>
-    ensures { result ≡ spec.late_keyword word.now }
+/// The one keyword that these letters can be.
+fn likely(word: &[char]) -> Option<Mark>
+    ensures { result ≡ spec.likely word.now }
 {
-    if word == "new" {
-        Some(Mark::New)
-    } else if word == "len" {
-        Some(Mark::Len)
-    } else if word == "true" {
-        Some(Mark::True)
-    } else if word == "false" {
-        Some(Mark::False)
-    } else if word == "null" {
-        Some(Mark::Null)
-    } else if word == "self" {
-        Some(Mark::Me)
-    } else if word == "static" {
-        Some(Mark::Static)
-    } else if word == "add" {
-        Some(Mark::Add)
-    } else if word == "print" {
-        Some(Mark::Print)
-    } else if word == "return" {
-        Some(Mark::Return)
-    } else {
-        None
+    match word {
+        [_, second] => Some(if *second == 'n' { Mark::In } else { Mark::If }),
+        [first, _, third, ..] => by_letters(*first, *third),
+        _ => None,
+    }
+}
+
+/// Whether these are the characters of an ASCII text.
+fn are_letters(word: &[char], letters: &[u8]) -> bool
+    ensures { IsTrue result ↔ (word.now ≡ letters.now) }
+{
+    if word.len() != letters.len() {
+        return false;
+    }
+    for (i, c) in word.iter().enumerate() {
+        if *c != letters[i] as char {
+            return false;
+        }
+    }
+    true
+}
+
+/// The keyword that is written so.
+fn keyword(word: &[char]) -> Option<Mark>
+    ensures { result ≡ spec.keyword (encode_utf8_all word.now) }
+{
+    match likely(word) {
+        Some(mark) => {
+            if are_letters(word, mark.written().as_bytes()) {
+                Some(mark)
+            } else {
+                None
+            }
+        }
+        None => None,
     }
 }
 
@@ -122,9 +136,8 @@ fn late_keyword(word: &str) -> Option<Mark>
 pub(crate) fn word(alloc: Global, chars: &[char]) -> Result<Token, Memory>
     ensures { IfOk result (λ t. t ≡ spec.word chars.now) }
 {
-    let word = text_of(alloc, chars)?;
-    match keyword(word.as_str()) {
+    match keyword(chars) {
         Some(mark) => Ok(Token::Sign(mark)),
-        None => Ok(Token::Name(word)),
+        None => Ok(Token::Name(text_of(alloc, chars)?)),
     }
 }

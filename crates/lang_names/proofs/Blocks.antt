@@ -5,7 +5,7 @@ use Rattle.syntax_tree.specs.declared.tree.Stmt.{Stmt}
 use Rattle.lang_names.specs.declared.wrong.Wrong.{Wrong}
 use Rattle.lang_names.specs.declared.wrong.NameFault.{NameFault}
 use Rattle.lang_names.specs.declared.wrong.NameFault.TheVariants as faults
-use Rattle.lang_names.specs.Known.{Known}
+use Rattle.syntax_tree.specs.Known.{Known}
 use Rattle.lang_names.specs.Stmts.{run, passing, go_on, dropped, block_right, Passes, Rights}
 
 blocked_by : (k : Known) (stmts : List Stmt) (s0 s : List (List ℕ)) (i : ℕ) (x : Stmt) (w : Wrong)

@@ -1,3 +1,4 @@
-pub mod Told
-pub mod Blocks
-pub mod Scopes
+mod Told
+mod Blocks
+mod Scopes
+pub mod CallerLemmas

@@ -4,8 +4,8 @@ use Rattle.std.specs.List.{position_from}
 use Rattle.std.specs.Prelude.{is_some, if◌then◌else◌}
 use Rattle.std.specs.Str.{bytes_eq}
 use Rattle.name_index.specs.Place.{has}
-use Rattle.name_index.proofs.Places.{bytes_eq-sym}
-use Rattle.lang_names.specs.Known.{contains}
+use Rattle.name_index.proofs.CallerLemmas.{bytes_eq-sym}
+use Rattle.syntax_tree.specs.Known.{contains}
 
 one-by : (b c rest : Bool) (found : Option ℕ) (i : ℕ) → b ≡ c → is_some found ≡ rest → is_some (cond b (Some i) found) ≡ (if c then true else rest)
 one-by true true rest found i same later = refl

@@ -12,7 +12,7 @@ use Rattle.syntax_tree.specs.declared.tree.Expr.TheFolds.{fold-roll-Expr}
 use Rattle.syntax_tree.specs.declared.tree.Expr.TheOpen as one
 use Rattle.lang_names.specs.declared.wrong.Wrong.{Wrong}
 use Rattle.lang_names.specs.Checked.{Checked, right, and_also}
-use Rattle.lang_names.specs.Known.{Known}
+use Rattle.syntax_tree.specs.Known.{Known}
 use Rattle.lang_names.specs.Exprs.{Told, told_of, told_step, name_right, fields_right, new_right, bean_right, with_told, first_names, left_of}
 
 -- their names are those of the fields

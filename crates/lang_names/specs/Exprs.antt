@@ -6,7 +6,8 @@ use Rattle.syntax_tree.specs.declared.tree.Expr.{Expr, fold-Expr}
 use Rattle.syntax_tree.specs.declared.tree.Expr.TheOpen.{Expr-F}
 use Rattle.syntax_tree.specs.declared.tree.Expr.TheOpen as one
 use Rattle.lang_names.specs.Checked.{Checked, right, later, known, fitting, and_also}
-use Rattle.lang_names.specs.Known.{Known, no_number, contains, consumed, kind_is, is_simple, is_several, all_in}
+use Rattle.syntax_tree.specs.Undeclared.{no_number}
+use Rattle.syntax_tree.specs.Known.{Known, contains, consumed, kind_is, is_simple, is_several, all_in}
 
 -- of an expression: the number of its first token, whether it is `self`, and the test of its names where some are in scope
 pub record Told : Type 0 where

@@ -1,5 +1,5 @@
 pub mod Checked
-pub mod Known
+pub mod Settings
 pub mod Exprs
 pub mod Stmts
 pub mod Names

@@ -5,7 +5,7 @@ use Rattle.item_types.specs.declared.decl.Names.{Names}
 use Rattle.item_types.specs.declared.decl.MethodSig.{MethodSig}
 use Rattle.syntax_tree.specs.declared.tree.Stmt.{Stmt}
 use Rattle.lang_names.specs.Checked.{Checked}
-use Rattle.lang_names.specs.Known.{of_step, of_recorder, method_of}
+use Rattle.syntax_tree.specs.Known.{of_step, of_recorder, method_of}
 use Rattle.lang_names.specs.Stmts.{names_right}
 
 -- no variable is in scope where a body begins

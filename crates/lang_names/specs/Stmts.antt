@@ -9,7 +9,8 @@ use Rattle.lang_names.specs.declared.wrong.Wrong.{Wrong}
 use Rattle.lang_names.specs.declared.wrong.NameFault.{NameFault}
 use Rattle.lang_names.specs.declared.wrong.NameFault.TheVariants as faults
 use Rattle.lang_names.specs.Checked.{Checked, right, later, known, fitting, and_also}
-use Rattle.lang_names.specs.Known.{Known, no_number, contains, produced, kind_is, carries_value, method_of, params_of}
+use Rattle.syntax_tree.specs.Undeclared.{no_number}
+use Rattle.syntax_tree.specs.Known.{Known, contains, produced, kind_is, carries_value, method_of, params_of}
 use Rattle.lang_names.specs.Exprs.{all_checked, expr_right, told_of}
 
 -- from the names in scope to those behind

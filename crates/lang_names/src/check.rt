@@ -1,5 +1,5 @@
 ghost use Rattle.std.specs.Prelude.{◌≡◌, IfOk, slice_get};
-ghost use Rattle.lang_names.specs.Known.{method_of};
+ghost use Rattle.syntax_tree.specs.Known.{method_of};
 ghost use Rattle.lang_names.specs.Names as spec;
 ghost use Rattle.lang_names.specs.Stmts.{Rights};
 

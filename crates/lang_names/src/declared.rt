@@ -1,5 +1,5 @@
 ghost use Rattle.std.specs.Prelude.{◌≡◌, map};
-ghost use Rattle.lang_names.specs.Known as spec;
+ghost use Rattle.syntax_tree.specs.Known as spec;
 ghost use Rattle.std.specs.Prelude.{slice_get};
 
 use item_types::{Consume, ItemKind, Names, Produce, Text};

@@ -1,6 +1,6 @@
 ghost use Rattle.std.specs.Prelude.{◌≡◌, ◌≤◌, length, take, map, slice_get, []};
 ghost use Rattle.item_types.specs.Named.{fields_of};
-ghost use Rattle.lang_names.specs.Known.{known_of};
+ghost use Rattle.lang_names.specs.Settings.{known_of};
 ghost use Rattle.lang_names.specs.Checked.{and_also};
 ghost use Rattle.lang_names.specs.Exprs as spec;
 ghost use Rattle.lang_names.specs.Exprs.{told_of, expr_right, with_told, first_names, left_of};
@@ -10,10 +10,7 @@ use crate::setting::Setting;
 use crate::wrong::{Wrong, fitting, known, later};
 use item_types::Text;
 use name_index::Index;
-use syntax_tree::{Expr, Link};
-
-/// The number that stands for a name that isn't there.
-pub(crate) const NO_NUMBER: u32 = 4294967295;
+use syntax_tree::{Expr, Link, NO_NUMBER};
 
 /// An item that is declared and that the step consumes.
 fn check_taken(setting: &Setting<'_>, at: u32, item: u32) -> Result<(), Wrong>

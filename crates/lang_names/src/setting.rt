@@ -1,5 +1,6 @@
 ghost use Rattle.std.specs.Prelude.{◌≡◌, ◌<◌, length, slice_get};
-ghost use Rattle.lang_names.specs.Known as spec;
+ghost use Rattle.syntax_tree.specs.Known as spec;
+ghost use Rattle.lang_names.specs.Settings.{known_of};
 
 use item_types::{Consume, Names, Produce, StepDecl, Text};
 
@@ -18,7 +19,7 @@ pub(crate) struct Setting<'a> {
 impl<'a> Setting<'a> {
     /// The setting of a step's body.
     pub fn of_step(names: &'a Names, decl: &'a StepDecl) -> Setting<'a>
-        ensures { spec.known_of result ≡ spec.of_step names.now decl.now }
+        ensures { known_of result ≡ spec.of_step names.now decl.now }
     {
         Setting {
             names,
@@ -32,7 +33,7 @@ impl<'a> Setting<'a> {
 
     /// The setting of a method of that recorder.
     pub fn of_recorder(names: &'a Names, recorder: u32) -> Setting<'a>
-        ensures { spec.known_of result ≡ spec.of_recorder names.now recorder }
+        ensures { known_of result ≡ spec.of_recorder names.now recorder }
     {
         match names.recorders.as_slice().get(recorder as usize) {
             Some(decl) => Setting {

@@ -1,17 +1,18 @@
 ghost use Rattle.std.specs.Prelude.{◌≡◌, ◌++◌, ◌∷◌, [], slice_get, Ok, OnOk, List, ℕ, map};
-ghost use Rattle.lang_names.specs.Known.{known_of, params_of, method_of};
+ghost use Rattle.lang_names.specs.Settings.{known_of};
+ghost use Rattle.syntax_tree.specs.Known.{params_of, method_of};
 ghost use Rattle.lang_names.specs.Checked.{and_also};
 ghost use Rattle.lang_names.specs.Exprs.{expr_right};
 ghost use Rattle.lang_names.specs.Stmts as spec;
 ghost use Rattle.lang_names.specs.Stmts.{Passes, Rights, Extends, leaves};
 
 use crate::declared::{carries_value, contains, in_scope, produced};
-use crate::exprs::{NO_NUMBER, check_expr, check_exprs};
+use crate::exprs::{check_expr, check_exprs};
 use crate::setting::Setting;
 use crate::wrong::{NameFault, Wrong, fitting, known, later};
 use item_types::Text;
 use name_index::Index;
-use syntax_tree::{Expr, Invoke, Stmt};
+use syntax_tree::{Expr, Invoke, NO_NUMBER, Stmt};
 
 /// How many parameters that method has; none where there is no such method.
 fn params_of(setting: &Setting<'_>, recorder: u32, method: u32) -> usize

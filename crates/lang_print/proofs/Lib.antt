@@ -1,2 +1,2 @@
-pub mod Puts
-pub mod Turns
+mod Puts
+mod Turns

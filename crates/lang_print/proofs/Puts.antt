@@ -1,7 +1,7 @@
 -- Tokens put one behind the other.
 use Rattle.std.proofs.Common.{◌≡◌, ℕ, List, [], ◌∷◌, ◌++◌, refl, ap, sym, ◌∙◌, append_assoc}
 use Rattle.std.proofs.lemmas.List.{append-nil}
-use Rattle.lang_tokens.specs.declared.token.Token.{Token}
+use Rattle.lang_lexer.specs.declared.token.Token.{Token}
 use Rattle.lang_print.specs.Canonical.{word, hugs_right, between, behind, canonical}
 use Rattle.lang_print.specs.Lines.{Line, blank, put, put_all}
 

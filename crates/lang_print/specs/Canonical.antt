@@ -3,11 +3,11 @@ use Rattle.std.specs.Prelude.{ℕ, Bool, true, false, ◌||◌, if◌then◌else
 use Rattle.std.specs.Fmt.{signed_decimal}
 use Rattle.item_types.specs.Quoted.{quoted}
 use Rattle.item_types.specs.declared.decl.Names.{Names}
-use Rattle.lang_tokens.specs.Marks.{written}
-use Rattle.lang_tokens.specs.declared.token.Mark.{Mark}
-use Rattle.lang_tokens.specs.declared.token.Mark.TheVariants.{Semi, Comma, Dot, Colon, Open, Close, OpenList, CloseList, Bang}
-use Rattle.lang_tokens.specs.declared.token.Token.{Token}
-use Rattle.lang_tokens.specs.declared.token.Token.TheVariants.{Sign, Number, Str, Name}
+use Rattle.lang_lexer.specs.Marks.{written}
+use Rattle.lang_lexer.specs.declared.token.Mark.{Mark}
+use Rattle.lang_lexer.specs.declared.token.Mark.TheVariants.{Semi, Comma, Dot, Colon, Open, Close, OpenList, CloseList, Bang}
+use Rattle.lang_lexer.specs.declared.token.Token.{Token}
+use Rattle.lang_lexer.specs.declared.token.Token.TheVariants.{Sign, Number, Str, Name}
 use Rattle.syntax_tree.specs.declared.tree.Stmt.{Stmt}
 use Rattle.lang_print.specs.Tokens.{body_tokens}
 

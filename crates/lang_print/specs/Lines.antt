@@ -1,6 +1,6 @@
 -- A text that grows by tokens. This project's own.
 use Rattle.std.specs.Prelude.{ℕ, Bool, true, ◌||◌, if◌then◌else◌, List, [], ◌∷◌, ◌++◌, codes, string_bytes}
-use Rattle.lang_tokens.specs.declared.token.Token.{Token}
+use Rattle.lang_lexer.specs.declared.token.Token.{Token}
 use Rattle.lang_print.specs.Canonical.{word, hugs_left, hugs_right}
 use Rattle.lang_print.specs.declared.printer.Printer.TheInside.{Inside}
 

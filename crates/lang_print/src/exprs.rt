@@ -8,7 +8,7 @@ ghost use Rattle.lang_print.specs.Tokens.{expr_tokens};
 use crate::naming::item_name;
 use crate::printer::Printer;
 use item_types::{Memory, Names, Text};
-use lang_tokens::Mark;
+use lang_lexer::Mark;
 use syntax_tree::{Expr, Link};
 
 fn print_named(out: &mut Printer, mark: Mark, name: &str) -> Result<(), Memory>

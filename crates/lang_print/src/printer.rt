@@ -1,14 +1,13 @@
 ghost use Rattle.std.specs.Prelude.{◌≡◌, ◌++◌, string_bytes, OnOk};
-ghost use Rattle.lang_tokens.specs.declared.token.Token.{Token};
-ghost use Rattle.lang_tokens.specs.declared.token.Token.TheVariants as token;
-ghost use Rattle.lang_tokens.specs.Marks.{written};
+ghost use Rattle.lang_lexer.specs.declared.token.Token.{Token};
+ghost use Rattle.lang_lexer.specs.declared.token.Token.TheVariants as token;
 ghost use Rattle.lang_print.specs.Canonical as spec;
 ghost use Rattle.lang_print.specs.Lines as line;
 ghost use Rattle.lang_print.specs.Lines.{put, put_all};
 ghost use Rattle.lang_print.specs.Tokens.{sign_if};
 
 use item_types::{Memory, push_quoted};
-use lang_tokens::Mark;
+use lang_lexer::Mark;
 use std::alloc::Global;
 use std::marker::Model;
 
@@ -59,7 +58,7 @@ impl Printer {
         ensures { OnOk result (self.new ≡ put (token.Sign mark) self.old) }
     {
         self.gap(hugs_left(mark))?;
-        self.text.push_str(written(mark))?;
+        self.text.push_str(mark.written())?;
         self.tight = hugs_right(mark);
         Ok(())
     }
@@ -121,47 +120,4 @@ fn hugs_right(mark: Mark) -> bool
     ensures { result ≡ spec.mark_hugs_right mark }
 {
     matches!(mark, Mark::Open | Mark::OpenList | Mark::Dot | Mark::Bang)
-}
-
-fn written(mark: Mark) -> &'static str
-    ensures { result.now ≡ written mark }
-{
-    match mark {
-        Mark::Let => "let",
-        Mark::Produce => "produce",
-        Mark::For => "for",
-        Mark::In => "in",
-        Mark::If => "if",
-        Mark::Else => "else",
-        Mark::Call => "call",
-        Mark::Fail => "fail",
-        Mark::Get => "get",
-        Mark::All => "all",
-        Mark::New => "new",
-        Mark::Len => "len",
-        Mark::True => "true",
-        Mark::False => "false",
-        Mark::Null => "null",
-        Mark::Me => "self",
-        Mark::Static => "static",
-        Mark::Add => "add",
-        Mark::Print => "print",
-        Mark::Return => "return",
-        Mark::Semi => ";",
-        Mark::Comma => ",",
-        Mark::Dot => ".",
-        Mark::Colon => ":",
-        Mark::Open => "(",
-        Mark::Close => ")",
-        Mark::OpenList => "[",
-        Mark::CloseList => "]",
-        Mark::OpenBlock => "{",
-        Mark::CloseBlock => "}",
-        Mark::Assign => "=",
-        Mark::Equal => "==",
-        Mark::Less => "<",
-        Mark::Plus => "+",
-        Mark::Bang => "!",
-        Mark::And => "&&",
-    }
 }

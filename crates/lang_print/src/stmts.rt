@@ -9,7 +9,7 @@ use crate::exprs::{print_expr, print_parts};
 use crate::naming::{item_name, method_name, recorder_name};
 use crate::printer::Printer;
 use item_types::{Memory, Names, Text};
-use lang_tokens::Mark;
+use lang_lexer::Mark;
 use syntax_tree::{Expr, Invoke, Stmt};
 
 /// `e;`

@@ -1,6 +1,6 @@
 -- A sign of a comparison, the part behind it, and the tree of both parts.
 use Rattle.std.specs.Prelude.{ℕ}
-use Rattle.lang_tokens.specs.declared.token.Mark.{Mark}
+use Rattle.lang_lexer.specs.declared.token.Mark.{Mark}
 use Rattle.syntax_tree.specs.declared.tree.Expr.{Expr}
 use Rattle.lang_grammar.specs.Place.{Parser, ◌>>=◌, pure}
 use Rattle.lang_grammar.specs.Rules.{sign}

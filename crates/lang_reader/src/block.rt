@@ -9,7 +9,7 @@ use crate::plain::plain;
 use crate::reading::{Lang, name, sees_stmt};
 use item_types::Seq;
 use lang_grammar::ParseError;
-use lang_tokens::{Mark, Token};
+use lang_lexer::{Mark, Token};
 use syntax_tree::Stmt;
 
 #[tactic(auto, unfolding(lang_grammar::specs::Rules::for_form))]

@@ -5,7 +5,7 @@ ghost use Rattle.lang_grammar.specs.Place.{Gives};
 ghost use Rattle.lang_grammar.specs.Rules as rules;
 
 use lang_grammar::{Fault, ParseError};
-use lang_tokens::{Mark, Token};
+use lang_lexer::{Mark, Token};
 use std::marker::Model;
 
 /// A place among the tokens.

@@ -1,5 +1,5 @@
 ghost use Rattle.std.specs.Prelude.{◌≡◌, ◌∷◌, [], IfOk};
-ghost use Rattle.lang_tokens.specs.declared.token.Mark.TheVariants as mark;
+ghost use Rattle.lang_lexer.specs.declared.token.Mark.TheVariants as mark;
 ghost use Rattle.syntax_tree.specs.declared.tree.Expr.TheVariants as expr;
 ghost use Rattle.lang_grammar.specs.Place.{Gives, is};
 ghost use Rattle.lang_reader.specs.Compared.{compared_with};
@@ -10,7 +10,7 @@ use crate::reading::{Lang, name, sees_comparison};
 use crate::simple::simple;
 use item_types::{Boxed, Memory, Seq, Text};
 use lang_grammar::ParseError;
-use lang_tokens::{Mark, Token};
+use lang_lexer::{Mark, Token};
 use std::alloc::Global;
 use syntax_tree::{Expr, Link};
 

@@ -6,7 +6,7 @@ use crate::expr::{expr, exprs};
 use crate::reading::{Lang, name};
 use item_types::{Seq, Text};
 use lang_grammar::ParseError;
-use lang_tokens::{Mark, Token};
+use lang_lexer::{Mark, Token};
 use syntax_tree::{Expr, Invoke, Stmt};
 
 /// A call's arguments, in brackets.

@@ -6,7 +6,7 @@ ghost use Rattle.lang_grammar.specs.Table.{begins_stmt, compares};
 use crate::cursor::Cursor;
 use item_types::{Same, Text};
 use lang_grammar::ParseError;
-use lang_tokens::{Mark, Token};
+use lang_lexer::{Mark, Token};
 use name_directory::Directory;
 use std::alloc::Global;
 

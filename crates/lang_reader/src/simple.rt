@@ -5,7 +5,7 @@ ghost use Rattle.lang_grammar.specs.Rules as spec;
 use crate::cursor::Cursor;
 use crate::reading::{Lang, name, number, text};
 use lang_grammar::ParseError;
-use lang_tokens::{Mark, Token};
+use lang_lexer::{Mark, Token};
 use syntax_tree::Expr;
 
 #[tactic(auto, unfolding(lang_grammar::specs::Rules::null))]

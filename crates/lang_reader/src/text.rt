@@ -6,8 +6,7 @@ use crate::block::whole;
 use crate::reading::Lang;
 use item_types::{Memory, Seq};
 use lang_grammar::{Fault, LangFault, ParseError};
-use lang_lexer::tokens;
-use lang_tokens::Token;
+use lang_lexer::{Token, tokens};
 use syntax_tree::Stmt;
 
 /// The fault at a token, where the text has so many tokens; complete says that it ends behind

@@ -2,7 +2,7 @@
 use Rattle.std.proofs.Common.{◌≡◌, ℕ, Bool, true, List, ap, subst, ◌∙◌}
 use Rattle.std.specs.Prelude.{All}
 use Rattle.std.specs.Str.{chars, IsUtf8}
-use Rattle.lang_tokens.specs.declared.token.Token.{Token}
+use Rattle.lang_lexer.specs.declared.token.Token.{Token}
 use Rattle.syntax_tree.specs.declared.tree.Stmt.{Stmt}
 use Rattle.item_types.specs.declared.decl.Names.{Names}
 use Rattle.lang_lexer.specs.Tokens.{tokens}

@@ -2,26 +2,29 @@
 use Rattle.std.proofs.Common.{◌≡◌, ℕ, zero, suc, Bool, true, false, List, [], ◌∷◌, ◌++◌, map, refl, sym, ap, ◌∙◌}
 use Rattle.std.specs.Prelude.{not, ◌==◌}
 use Rattle.std.proofs.lemmas.List.{append-nil}
-use Rattle.lang_tokens.specs.declared.token.Mark.TheVariants.{Get, All, New, Len, True, False, Null, Me, Static, Comma, Dot, Colon, Open, Close, OpenList, CloseList, OpenBlock, CloseBlock, Equal, Less, Plus, Bang, And}
-use Rattle.lang_tokens.specs.declared.token.Token.{Token}
-use Rattle.lang_tokens.specs.declared.token.Token.TheVariants.{Sign, Number, Str, Name}
+use Rattle.lang_lexer.specs.declared.token.Mark.TheVariants.{Get, All, New, Len, True, False, Null, Me, Static, Comma, Dot, Colon, Open, Close, OpenList, CloseList, OpenBlock, CloseBlock, Equal, Less, Plus, Bang, And}
+use Rattle.lang_lexer.specs.declared.token.Token.{Token}
+use Rattle.lang_lexer.specs.declared.token.Token.TheVariants.{Sign, Number, Str, Name}
 use Rattle.syntax_tree.specs.declared.tree.Link.{Link}
 use Rattle.syntax_tree.specs.declared.tree.Expr.{Expr}
 use Rattle.syntax_tree.specs.declared.tree.Expr.TheVariants as e
 use Rattle.item_types.specs.Named.{fields_of}
 use Rattle.std.specs.Prelude.{slice_get}
 use Rattle.lang_grammar.specs.Place.{is}
-use Rattle.lang_grammar.specs.Naming.{item_number, bean_number}
+use Rattle.syntax_tree.specs.Naming.{item_number, bean_number}
 use Rattle.lang_grammar.specs.Forms.{Form, nothing}
 use Rattle.lang_grammar.specs.Table as table
 use Rattle.lang_grammar.specs.Table.{compares}
 use Rattle.lang_names.specs.Checked.{right, and_also, later}
-use Rattle.lang_names.specs.Known.{Known, no_number}
+use Rattle.syntax_tree.specs.Undeclared.{no_number}
+use Rattle.syntax_tree.specs.Known.{Known}
 use Rattle.lang_names.specs.Exprs.{Told, told_of, taken_right, get_right, all_right, new_right, bean_right, name_right, fields_right, all_checked, with_told, link_right}
 use Rattle.lang_print.specs.Tokens.{parted, together, link_tokens, field_tokens, paren_tokens, expr_tokens, with_tokens}
-use Rattle.lang_round.proofs.Holding.{Holds, holds_nothing, holds_give, holds_form, holds_last, holds_sign, holds_name, holds_number, holds_text, holds_here, holds_first, holds_optional, holds_allowed, holds_opening, Parts, holds_more, Prints, AllGood, holds_listing, holds_chain}
-use Rattle.lang_round.proofs.Placed.{both_left, both_right, known_number, item_named, bean_named}
-use Rattle.lang_round.proofs.Unrolled.{tokens_null, tokens_bool, tokens_long, tokens_str, tokens_name, tokens_get, checks_get, tokens_all, checks_all, tokens_new, checks_new, tokens_listof, checks_listof, tokens_fields, checks_fields, tokens_len, checks_len, tokens_not, checks_not, tokens_sum, checks_sum, tokens_both, checks_both, tokens_equal, checks_equal, tokens_less, checks_less, tokens_paren, checks_paren, tokens_me, tokens_staticof}
+use Rattle.lang_names.proofs.CallerLemmas.{both_left, both_right, known_number, checks_get, checks_all, checks_new, checks_listof, checks_fields, checks_len, checks_not, checks_sum, checks_both, checks_equal, checks_less, checks_paren}
+use Rattle.lang_grammar.proofs.CallerLemmas.{Holds, holds_nothing, holds_give, holds_form, holds_last, holds_sign, holds_name, holds_number, holds_text, holds_here, holds_first, holds_optional, holds_allowed, holds_opening, Parts, holds_more}
+use Rattle.lang_round.proofs.Holding.{Prints, AllGood, holds_listing, holds_chain}
+use Rattle.lang_round.proofs.Placed.{item_named, bean_named}
+use Rattle.lang_round.proofs.Unrolled.{tokens_null, tokens_bool, tokens_long, tokens_str, tokens_name, tokens_get, tokens_all, tokens_new, tokens_listof, tokens_fields, tokens_len, tokens_not, tokens_sum, tokens_both, tokens_equal, tokens_less, tokens_paren, tokens_me, tokens_staticof}
 
 module _ (step : Bool) (k : Known) (s : List (List ℕ)) where
   abbrev pub pr : Expr → List Token

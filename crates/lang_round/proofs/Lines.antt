@@ -7,11 +7,11 @@ use Rattle.std.specs.Fmt.{signed_decimal}
 use Rattle.std.proofs.lemmas.Bool.{and_parts}
 use Rattle.std.proofs.lemmas.Str.{encodes-append, scalars-chars, chars-encodes, chars-nil, IsUtf8-nil}
 use Rattle.std.proofs.Math.Utf8.{scalar, scalars}
-use Rattle.lang_tokens.specs.declared.token.Mark.{Mark}
-use Rattle.lang_tokens.specs.declared.token.Mark.TheVariants.{Semi, Comma, Dot, Colon, Open, Close, CloseList}
-use Rattle.lang_tokens.specs.declared.token.Token.{Token}
-use Rattle.lang_tokens.specs.declared.token.Token.TheVariants.{Sign, Number, Str, Name}
-use Rattle.lang_tokens.specs.Marks.{written}
+use Rattle.lang_lexer.specs.declared.token.Mark.{Mark}
+use Rattle.lang_lexer.specs.declared.token.Mark.TheVariants.{Semi, Comma, Dot, Colon, Open, Close, CloseList}
+use Rattle.lang_lexer.specs.declared.token.Token.{Token}
+use Rattle.lang_lexer.specs.declared.token.Token.TheVariants.{Sign, Number, Str, Name}
+use Rattle.lang_lexer.specs.Marks.{written}
 use Rattle.lang_lexer.specs.Tokens.{token, is_blank, skip, go_on, tokens_from, tokens}
 use Rattle.lang_lexer.specs.Kinds.{IsToken, mark, number, text, name, AreTokens, over, stuck, more}
 use Rattle.lang_print.specs.Canonical.{word, mark_hugs_left, hugs_left, hugs_right, between, behind, canonical}

@@ -12,7 +12,7 @@ use Rattle.std.proofs.lemmas.Fmt.{hex_one_digit, hex_two_digits}
 use Rattle.std.proofs.lemmas.List.{append-nil}
 use Rattle.std.proofs.Math.Utf8.{scalar, scalars}
 use Rattle.item_types.specs.Quoted.{escaped}
-use Rattle.lang_tokens.specs.declared.token.Token.TheVariants.{Str}
+use Rattle.lang_lexer.specs.declared.token.Token.TheVariants.{Str}
 use Rattle.lang_lexer.specs.Quotes.{quoted, hex_value, is_scalar}
 use Rattle.lang_lexer.specs.Tokens.{token, quoted_token}
 use Rattle.lang_lexer.specs.Kinds.{IsEscape, quote, backslash, line, tab, Means, no_text, itself, escape, scalar as by_number}

@@ -1,59 +1,35 @@
 -- The tokens of statements that were read, all of whose names are right, are those they were read from.
-use Rattle.std.proofs.Common.{◌≡◌, ℕ, zero, suc, Bool, true, false, List, [], ◌∷◌, ◌++◌, map, Ok, Err, refl, sym, ap, ◌∙◌, append_assoc}
-use Rattle.std.specs.Prelude.{not, ◌==◌, Option, Some, None, Result, slice_get}
+use Rattle.std.proofs.Common.{◌≡◌, ℕ, zero, suc, Bool, true, false, List, [], ◌∷◌, ◌++◌, map, Ok, refl, sym, ap, ◌∙◌, append_assoc}
+use Rattle.std.specs.Prelude.{not, ◌==◌, Option, Some, None, slice_get}
 use Rattle.item_types.specs.declared.decl.Names.{Names}
 use Rattle.item_types.specs.declared.decl.RecorderDecl.{RecorderDecl}
 use Rattle.item_types.specs.declared.step.StepDecl.{StepDecl}
 use Rattle.lang_names.specs.Names.{body_right, method_right, names_of_params}
-use Rattle.lang_tokens.specs.declared.token.Mark.TheVariants.{Let, Produce, For, In, If, Else, Call, Fail, Me, Static, Add, Print, Return, Semi, Comma, Dot, Open, Close, OpenBlock, CloseBlock, Assign}
-use Rattle.lang_tokens.specs.declared.token.Token.{Token}
-use Rattle.lang_tokens.specs.declared.token.Token.TheVariants.{Sign, Name}
+use Rattle.lang_lexer.specs.declared.token.Mark.TheVariants.{Let, Produce, For, In, If, Else, Call, Fail, Me, Static, Add, Print, Return, Semi, Comma, Dot, Open, Close, OpenBlock, CloseBlock, Assign}
+use Rattle.lang_lexer.specs.declared.token.Token.{Token}
+use Rattle.lang_lexer.specs.declared.token.Token.TheVariants.{Sign, Name}
 use Rattle.syntax_tree.specs.declared.tree.Invoke.{Invoke}
 use Rattle.syntax_tree.specs.declared.tree.Expr.{Expr}
 use Rattle.syntax_tree.specs.declared.tree.Stmt.{Stmt}
 use Rattle.syntax_tree.specs.declared.tree.Stmt.TheVariants as b
 use Rattle.lang_grammar.specs.Place.{is}
-use Rattle.lang_grammar.specs.Naming.{item_number, recorder_number, method_number}
+use Rattle.syntax_tree.specs.Naming.{item_number, recorder_number, method_number}
 use Rattle.lang_grammar.specs.Forms.{Form, give, sign, ◌⟫=◌, many, opening, listing}
 use Rattle.lang_grammar.specs.Table as table
 use Rattle.lang_grammar.specs.Sentence.{IsBody}
-use Rattle.lang_names.specs.declared.wrong.Wrong.{Wrong}
-use Rattle.lang_names.specs.Checked.{Checked, right, later, known, fitting, and_also}
-use Rattle.lang_names.specs.Known.{Known, no_number, contains, of_step, of_decl, method_of}
+use Rattle.lang_names.specs.Checked.{right, later, known, fitting, and_also}
+use Rattle.syntax_tree.specs.Undeclared.{no_number}
+use Rattle.syntax_tree.specs.Known.{Known, contains, of_step, of_decl, method_of}
 use Rattle.lang_names.specs.Exprs.{expr_right}
-use Rattle.lang_names.specs.Stmts.{Passing, leaves, dropped, go_on, run, block_right, call_right, produce_right, other_right, passing, names_right}
+use Rattle.lang_names.specs.Stmts.{run, block_right, call_right, produce_right, other_right, passing, names_right}
 use Rattle.lang_print.specs.Naming.{method_name}
 use Rattle.lang_print.specs.Tokens.{parted, together, expr_tokens, call_tokens, block_tokens, other_of, stmt_tokens, body_tokens}
-use Rattle.lang_round.proofs.Holding.{Holds, holds_nothing, holds_give, holds_form, holds_last, holds_sign, holds_name, holds_here, holds_first, holds_optional, holds_choose, holds_allowed, holds_opening, Parts, holds_more, AllGood, holds_listing}
-use Rattle.lang_round.proofs.Placed.{both_left, both_right, known_number, item_named, recorder_named, method_named}
+use Rattle.lang_names.proofs.CallerLemmas.{leaves_right, Went, went, Ends, ends, both_left, both_right, known_number, passes_let, passes_letcall, passes_callof, passes_produce, passes_for, passes_failwith, passes_print, passes_return, passes_add, passes_setstatic, passes_setself, passes_setfield, others, passes_if}
+use Rattle.lang_grammar.proofs.CallerLemmas.{Holds, holds_nothing, holds_give, holds_form, holds_last, holds_sign, holds_name, holds_here, holds_first, holds_optional, holds_choose, holds_allowed, holds_opening, Parts, holds_more, holds_each}
+use Rattle.lang_round.proofs.Holding.{AllGood, holds_listing}
+use Rattle.lang_round.proofs.Placed.{item_named, recorder_named, method_named}
 use Rattle.lang_round.proofs.Exprs.{Good, all_good, holds_expr, holds_inner}
-use Rattle.lang_round.proofs.Unfolded.{tokens_let, passes_let, tokens_letcall, passes_letcall, tokens_callof, passes_callof, tokens_produce, passes_produce, tokens_for, passes_for, tokens_failwith, passes_failwith, tokens_print, passes_print, tokens_return, passes_return, tokens_add, passes_add, tokens_setstatic, passes_setstatic, tokens_setself, passes_setself, tokens_setfield, passes_setfield, tokens_if, others, passes_if}
-
--- ---- tests
-
-leaves_right : (c : Checked) (s t : List (List ℕ)) → leaves c s ≡ Ok t → c ≡ right
-leaves_right (Ok x) s t e = refl
-leaves_right (Err w) s t e = absurd cc
-
-record Went (r : Result (List (List ℕ)) Wrong) (f : Passing) (t : List (List ℕ)) : Type 0 where
-  u : List (List ℕ)
-  first : r ≡ Ok u
-  then : f u ≡ Ok t
-
-went : (r : Result (List (List ℕ)) Wrong) (f : Passing) (t : List (List ℕ)) → go_on r f ≡ Ok t → Went r f t
-went (Ok u) f t e = record { u = u; first = refl; then = e }
-went (Err w) f t e = absurd cc
-
-record Ends (r : Result (List (List ℕ)) Wrong) : Type 0 where
-  u : List (List ℕ)
-  is : r ≡ Ok u
-
-ends : (r : Result (List (List ℕ)) Wrong) → dropped r ≡ right → Ends r
-ends (Ok u) e = record { u = u; is = refl }
-ends (Err w) e = absurd cc
-
-holds_each : {A S : Type 0} {F : Form A} {P : S → A → List Token → Type 0} → ((s : S) → Holds F (P s)) → Holds F (λ x xs. (s : S) → P s x xs)
-holds_each h = record { all = λ k x xs i s. (h s).all k x xs i }
+use Rattle.lang_round.proofs.Unfolded.{tokens_let, tokens_letcall, tokens_callof, tokens_produce, tokens_for, tokens_failwith, tokens_print, tokens_return, tokens_add, tokens_setstatic, tokens_setself, tokens_setfield, tokens_if}
 
 module _ (step : Bool) (k : Known) where
   abbrev pr : Expr → List Token

@@ -1,17 +1,15 @@
--- The tokens and the test of an expression, form by form.
+-- The tokens of an expression, form by form.
 use Rattle.std.proofs.Common.{◌≡◌, ℕ, ℤ, Bool, false, List, [], ◌∷◌, map, sym, ap, ◌∙◌}
-use Rattle.lang_tokens.specs.declared.token.Mark.TheVariants.{Get, All, Len, Null, Me, Static, Dot, Equal, Less, Plus, Bang, And}
-use Rattle.lang_tokens.specs.declared.token.Token.{Token}
-use Rattle.lang_tokens.specs.declared.token.Token.TheVariants.{Sign, Number, Str, Name}
+use Rattle.lang_lexer.specs.declared.token.Mark.TheVariants.{Get, All, Len, Null, Me, Static, Dot, Equal, Less, Plus, Bang, And}
+use Rattle.lang_lexer.specs.declared.token.Token.{Token}
+use Rattle.lang_lexer.specs.declared.token.Token.TheVariants.{Sign, Number, Str, Name}
 use Rattle.syntax_tree.specs.declared.tree.Link.{Link}
 use Rattle.syntax_tree.specs.declared.tree.Expr.{Expr}
 use Rattle.syntax_tree.specs.declared.tree.Expr.TheVariants as e
 use Rattle.syntax_tree.specs.declared.tree.Expr.TheVariants.{rolls-Null, rolls-Bool, rolls-Long, rolls-Str, rolls-Name, rolls-Get, rolls-All, rolls-New, rolls-ListOf, rolls-Fields, rolls-Len, rolls-Not, rolls-Sum, rolls-Both, rolls-Equal, rolls-Less, rolls-Paren, rolls-Me, rolls-StaticOf}
 use Rattle.syntax_tree.specs.declared.tree.Expr.TheFolds.{fold-roll-Expr}
 use Rattle.syntax_tree.specs.declared.tree.Expr.TheOpen as one
-use Rattle.lang_names.specs.Checked.{and_also}
-use Rattle.lang_names.specs.Known.{Known}
-use Rattle.lang_names.specs.Exprs.{Told, told_of, told_step, get_right, all_right, bean_right, link_right, all_checked, with_told}
+use Rattle.syntax_tree.specs.Known.{Known}
 use Rattle.lang_print.specs.Naming.{item_name}
 use Rattle.lang_print.specs.Tokens.{parted, bool_mark, new_tokens, paren_tokens, compared, linked, listed, expr_step, expr_tokens, with_tokens}
 
@@ -37,74 +35,38 @@ module _ (k : Known) where
   pub tokens_get : (at item : ℕ) → pr (e.Get at item) ≡ Sign Get ∷ Name (item_name k.names item) ∷ []
   tokens_get at item = ap pr (sym (rolls-Get at item)) ∙ fold-roll-Expr (List Token) (expr_step k.names) (one.Get at item)
 
-  pub checks_get : (s : List (List ℕ)) (at item : ℕ) → (told_of k (e.Get at item)).check s ≡ get_right k at item
-  checks_get s at item = ap (λ (t : Told). t.check s) (ap (told_of k) (sym (rolls-Get at item)) ∙ fold-roll-Expr Told (told_step k) (one.Get at item))
-
   pub tokens_all : (at item : ℕ) → pr (e.All at item) ≡ Sign All ∷ Name (item_name k.names item) ∷ []
   tokens_all at item = ap pr (sym (rolls-All at item)) ∙ fold-roll-Expr (List Token) (expr_step k.names) (one.All at item)
-
-  pub checks_all : (s : List (List ℕ)) (at item : ℕ) → (told_of k (e.All at item)).check s ≡ all_right k at item
-  checks_all s at item = ap (λ (t : Told). t.check s) (ap (told_of k) (sym (rolls-All at item)) ∙ fold-roll-Expr Told (told_step k) (one.All at item))
 
   pub tokens_new : (at bean : ℕ) (fs : List (List ℕ × Expr)) → pr (e.New at bean fs) ≡ new_tokens k.names bean (with_tokens k.names fs)
   tokens_new at bean fs = ap pr (sym (rolls-New at bean fs)) ∙ fold-roll-Expr (List Token) (expr_step k.names) (one.New at bean fs)
 
-  pub checks_new : (s : List (List ℕ)) (at bean : ℕ) (fs : List (List ℕ × Expr)) → (told_of k (e.New at bean fs)).check s ≡ bean_right k at bean (with_told k fs) s
-  checks_new s at bean fs = ap (λ (t : Told). t.check s) (ap (told_of k) (sym (rolls-New at bean fs)) ∙ fold-roll-Expr Told (told_step k) (one.New at bean fs))
-
   pub tokens_listof : (at : ℕ) (parts : List Expr) → pr (e.ListOf at parts) ≡ listed (map pr parts)
   tokens_listof at parts = ap pr (sym (rolls-ListOf at parts)) ∙ fold-roll-Expr (List Token) (expr_step k.names) (one.ListOf at parts)
-
-  pub checks_listof : (s : List (List ℕ)) (at : ℕ) (parts : List Expr) → (told_of k (e.ListOf at parts)).check s ≡ all_checked (map (told_of k) parts) s
-  checks_listof s at parts = ap (λ (t : Told). t.check s) (ap (told_of k) (sym (rolls-ListOf at parts)) ∙ fold-roll-Expr Told (told_step k) (one.ListOf at parts))
 
   pub tokens_fields : (inner : Expr) (links : List Link) → pr (e.Fields inner links) ≡ linked (pr inner) links
   tokens_fields inner links = ap pr (sym (rolls-Fields inner links)) ∙ fold-roll-Expr (List Token) (expr_step k.names) (one.Fields inner links)
 
-  pub checks_fields : (s : List (List ℕ)) (inner : Expr) (links : List Link) → (told_of k (e.Fields inner links)).check s ≡ and_also ((told_of k inner).check s) (link_right k (told_of k inner).me links)
-  checks_fields s inner links = ap (λ (t : Told). t.check s) (ap (told_of k) (sym (rolls-Fields inner links)) ∙ fold-roll-Expr Told (told_step k) (one.Fields inner links))
-
   pub tokens_len : (at : ℕ) (inner : Expr) → pr (e.Len at inner) ≡ Sign Len ∷ pr inner
   tokens_len at inner = ap pr (sym (rolls-Len at inner)) ∙ fold-roll-Expr (List Token) (expr_step k.names) (one.Len at inner)
-
-  pub checks_len : (s : List (List ℕ)) (at : ℕ) (inner : Expr) → (told_of k (e.Len at inner)).check s ≡ (told_of k inner).check s
-  checks_len s at inner = ap (λ (t : Told). t.check s) (ap (told_of k) (sym (rolls-Len at inner)) ∙ fold-roll-Expr Told (told_step k) (one.Len at inner))
 
   pub tokens_not : (at : ℕ) (inner : Expr) → pr (e.Not at inner) ≡ Sign Bang ∷ pr inner
   tokens_not at inner = ap pr (sym (rolls-Not at inner)) ∙ fold-roll-Expr (List Token) (expr_step k.names) (one.Not at inner)
 
-  pub checks_not : (s : List (List ℕ)) (at : ℕ) (inner : Expr) → (told_of k (e.Not at inner)).check s ≡ (told_of k inner).check s
-  checks_not s at inner = ap (λ (t : Told). t.check s) (ap (told_of k) (sym (rolls-Not at inner)) ∙ fold-roll-Expr Told (told_step k) (one.Not at inner))
-
   pub tokens_sum : (parts : List Expr) (signs : List ℕ) → pr (e.Sum parts signs) ≡ parted Plus false (map pr parts)
   tokens_sum parts signs = ap pr (sym (rolls-Sum parts signs)) ∙ fold-roll-Expr (List Token) (expr_step k.names) (one.Sum parts signs)
-
-  pub checks_sum : (s : List (List ℕ)) (parts : List Expr) (signs : List ℕ) → (told_of k (e.Sum parts signs)).check s ≡ all_checked (map (told_of k) parts) s
-  checks_sum s parts signs = ap (λ (t : Told). t.check s) (ap (told_of k) (sym (rolls-Sum parts signs)) ∙ fold-roll-Expr Told (told_step k) (one.Sum parts signs))
 
   pub tokens_both : (parts : List Expr) (signs : List ℕ) → pr (e.Both parts signs) ≡ parted And false (map pr parts)
   tokens_both parts signs = ap pr (sym (rolls-Both parts signs)) ∙ fold-roll-Expr (List Token) (expr_step k.names) (one.Both parts signs)
 
-  pub checks_both : (s : List (List ℕ)) (parts : List Expr) (signs : List ℕ) → (told_of k (e.Both parts signs)).check s ≡ all_checked (map (told_of k) parts) s
-  checks_both s parts signs = ap (λ (t : Told). t.check s) (ap (told_of k) (sym (rolls-Both parts signs)) ∙ fold-roll-Expr Told (told_step k) (one.Both parts signs))
-
   pub tokens_equal : (left : Expr) (sign : ℕ) (right : Expr) → pr (e.Equal left sign right) ≡ compared Equal (pr left) (pr right)
   tokens_equal left sign right = ap pr (sym (rolls-Equal left sign right)) ∙ fold-roll-Expr (List Token) (expr_step k.names) (one.Equal left sign right)
-
-  pub checks_equal : (s : List (List ℕ)) (left : Expr) (sign : ℕ) (right : Expr) → (told_of k (e.Equal left sign right)).check s ≡ and_also ((told_of k left).check s) ((told_of k right).check s)
-  checks_equal s left sign right = ap (λ (t : Told). t.check s) (ap (told_of k) (sym (rolls-Equal left sign right)) ∙ fold-roll-Expr Told (told_step k) (one.Equal left sign right))
 
   pub tokens_less : (left : Expr) (sign : ℕ) (right : Expr) → pr (e.Less left sign right) ≡ compared Less (pr left) (pr right)
   tokens_less left sign right = ap pr (sym (rolls-Less left sign right)) ∙ fold-roll-Expr (List Token) (expr_step k.names) (one.Less left sign right)
 
-  pub checks_less : (s : List (List ℕ)) (left : Expr) (sign : ℕ) (right : Expr) → (told_of k (e.Less left sign right)).check s ≡ and_also ((told_of k left).check s) ((told_of k right).check s)
-  checks_less s left sign right = ap (λ (t : Told). t.check s) (ap (told_of k) (sym (rolls-Less left sign right)) ∙ fold-roll-Expr Told (told_step k) (one.Less left sign right))
-
   pub tokens_paren : (at : ℕ) (inner : Expr) → pr (e.Paren at inner) ≡ paren_tokens (pr inner)
   tokens_paren at inner = ap pr (sym (rolls-Paren at inner)) ∙ fold-roll-Expr (List Token) (expr_step k.names) (one.Paren at inner)
-
-  pub checks_paren : (s : List (List ℕ)) (at : ℕ) (inner : Expr) → (told_of k (e.Paren at inner)).check s ≡ (told_of k inner).check s
-  checks_paren s at inner = ap (λ (t : Told). t.check s) (ap (told_of k) (sym (rolls-Paren at inner)) ∙ fold-roll-Expr Told (told_step k) (one.Paren at inner))
 
   pub tokens_me : (at : ℕ) → pr (e.Me at) ≡ Sign Me ∷ []
   tokens_me at = ap pr (sym (rolls-Me at)) ∙ fold-roll-Expr (List Token) (expr_step k.names) (one.Me at)

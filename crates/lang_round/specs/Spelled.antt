@@ -1,7 +1,7 @@
 -- Tokens that texts spell. This project's own.
 use Rattle.std.specs.Prelude.{ℕ, List}
 use Rattle.std.specs.Str.{chars, IsUtf8}
-use Rattle.lang_tokens.specs.declared.token.Token.{Token}
+use Rattle.lang_lexer.specs.declared.token.Token.{Token}
 use Rattle.lang_lexer.specs.Kinds.{IsToken}
 
 -- some text is this token, in whatever way it is written there

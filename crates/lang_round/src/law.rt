@@ -3,7 +3,7 @@ ghost use Rattle.std.specs.Str.{chars, IsUtf8};
 ghost use Rattle.item_types.specs.declared.decl.Names.{Names};
 ghost use Rattle.item_types.specs.declared.step.StepDecl.{StepDecl};
 ghost use Rattle.syntax_tree.specs.declared.tree.Stmt.{Stmt};
-ghost use Rattle.lang_tokens.specs.declared.token.Token.{Token};
+ghost use Rattle.lang_lexer.specs.declared.token.Token.{Token};
 ghost use Rattle.lang_lexer.specs.Tokens.{tokens};
 ghost use Rattle.lang_grammar.specs.Sentence.{IsBody};
 ghost use Rattle.lang_grammar.specs.Text.{IsText};

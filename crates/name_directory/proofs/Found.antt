@@ -18,10 +18,11 @@ use Rattle.std.specs.Str.{bytes_eq}
 use Rattle.std.proofs.lemmas.Bool.Decides.{eqb_tells, leb_tells}
 use Rattle.item_types.specs.declared.decl.MethodSig.{MethodSig}
 use Rattle.item_types.specs.declared.decl.RecorderDecl.{RecorderDecl}
-use Rattle.lang_grammar.specs.Naming.{no_number, place_of, methods_by}
+use Rattle.syntax_tree.specs.Undeclared.{no_number}
+use Rattle.syntax_tree.specs.Naming.{place_of, methods_by}
 use Rattle.name_directory.specs.Numbers.{number_at, method_names, HasPlaces, AreMethods}
 use Rattle.name_index.specs.Place.{place}
-use Rattle.name_index.proofs.Places.{bytes_eq-sym, from-first, placed}
+use Rattle.name_index.proofs.CallerLemmas.{bytes_eq-sym, from-first, placed}
 
 -- a place that is not below the last number
 last-by : (b : Bool) (n : ℕ) → nat_lt n no_number ≡ b → b ≡ false → number_at (Some n) ≡ no_number

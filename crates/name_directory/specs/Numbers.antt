@@ -8,7 +8,7 @@ use Rattle.item_types.specs.declared.decl.ItemDecl.{ItemDecl}
 use Rattle.item_types.specs.declared.decl.MethodSig.{MethodSig}
 use Rattle.item_types.specs.declared.decl.Names.{Names}
 use Rattle.item_types.specs.declared.decl.RecorderDecl.{RecorderDecl}
-use Rattle.lang_grammar.specs.Naming.{no_number}
+use Rattle.syntax_tree.specs.Undeclared.{no_number}
 use Rattle.name_directory.specs.declared.register.Register.{Register}
 use Rattle.name_index.specs.Place.{place}
 

@@ -1,13 +1,11 @@
 ghost use Rattle.std.specs.Prelude.{◌≡◌};
-ghost use Rattle.lang_grammar.specs.Naming as spec;
+ghost use Rattle.syntax_tree.specs.Naming as spec;
 ghost use Rattle.name_directory.specs.Numbers.{IsRegister, number_at};
 
 use crate::register::Register;
 use item_types::{Names, Text};
 use std::marker::Model;
-
-/// The number that stands for a name that isn't there.
-pub const NO_NUMBER: u32 = 4294967295;
+use syntax_tree::NO_NUMBER;
 
 /// What is declared, where each name is found by a map. Contracts see what is declared.
 #[derive(Drop)]

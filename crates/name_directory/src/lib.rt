@@ -6,5 +6,5 @@ mod directory;
 mod places;
 mod register;
 
-pub use directory::{Directory, NO_NUMBER};
+pub use directory::Directory;
 pub use register::Register;

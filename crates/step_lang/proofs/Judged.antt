@@ -6,7 +6,7 @@ use Rattle.syntax_tree.specs.declared.tree.Stmt.{Stmt}
 use Rattle.lang_grammar.specs.declared.fault.LangFault.{LangFault}
 use Rattle.lang_grammar.specs.declared.fault.LangFault.TheVariants.{Token as NoToken, TooDeep, Syntax, Unknown, Undeclared, Memory}
 use Rattle.lang_grammar.specs.Text.{IsText, TextStuck, Told, of_text}
-use Rattle.lang_grammar.proofs.Texts.{text_reads, text_stuck, is_text, is_stuck}
+use Rattle.lang_grammar.proofs.CallerLemmas.{text_reads, text_stuck, is_text, is_stuck}
 use Rattle.lang_names.specs.Checked.{Checked, right}
 use Rattle.lang_names.specs.Stmts.{Rights}
 use Rattle.lang_names.specs.declared.wrong.NameFault.{NameFault}
@@ -75,15 +75,23 @@ module _ {A : Type 0} (make : List Stmt → A) (of : A → List Stmt) (given : (
   err_of (Ok c) f e h = err_by c (check c) f e refl h
   err_of (Err g) f e h = let same : g ≡ f = cc in stuck f (is_stuck step names text f (e ∙ ap Err same))
 
-  answer_ok : (a : A) → IsRight step names check (of a) text → answer make step names check text ≡ Ok a
+  pub answer_ok : (a : A) → IsRight step names check (of a) text → answer make step names check text ≡ Ok a
   unfolding answer
   answer_ok a h = ap (judged make check) (text_reads step names text (of a) h.sentence) ∙ ap (by_check make (of a)) h.named ∙ ap Ok (made a)
 
-  answer_err : (f : LangFault) → FirstFault step names check text f → answer make step names check text ≡ Err f
+  pub answer_err : (f : LangFault) → FirstFault step names check text f → answer make step names check text ≡ Err f
   unfolding answer
   answer_err f (stuck f' h) = ap (judged make check) (text_stuck step names text f' h)
   answer_err f (unknown c at h e) = ap (judged make check) (text_reads step names text c h) ∙ ap (by_check make c) e
   answer_err f (undeclared c at h e) = ap (judged make check) (text_reads step names text c h) ∙ ap (by_check make c) e
+
+  pub ok_answer : (a : A) → answer make step names check text ≡ Ok a → IsRight step names check (of a) text
+  unfolding answer
+  ok_answer a h = ok_of (of_text step names text) a refl h
+
+  pub err_answer : (f : LangFault) → answer make step names check text ≡ Err f → FirstFault step names check text f
+  unfolding answer
+  err_answer f h = err_of (of_text step names text) f refl h
 
   ok_told : (r : Result A LangFault) → Told (answer make step names check text) r → IfOk r (λ a. IsRight step names check (of a) text)
   unfolding answer

@@ -1,3 +1,4 @@
 pub mod Undeclared
+pub mod Naming
 pub mod Known
 pub mod Right

@@ -1,5 +1,8 @@
 use item_types::{Boxed, Seq, Text};
 
+/// The number that stands for a name that isn't declared, in a tree whose names aren't checked yet.
+pub const NO_NUMBER: u32 = 4294967295;
+
 /// A step's body.
 #[derive(Drop)]
 pub struct Body {

@@ -1,6 +1,6 @@
 use Rattle.std.proofs.Common.{◌≡◌, ℕ, List, drop, map}
 use Rattle.syntax_tree.specs.declared.tree.Expr.{Expr}
-use Rattle.lang_names.specs.Known as spec
+use Rattle.syntax_tree.specs.Known as spec
 use Rattle.lang_names.proofs.declared.all_in.Given as goal
 
 abbrev pub invariant-loop-word : goal.invariant-loop-word

@@ -1,5 +1,5 @@
 use Rattle.std.proofs.Common.{◌≡◌, drop}
-use Rattle.lang_names.specs.Known as spec
+use Rattle.syntax_tree.specs.Known as spec
 use Rattle.lang_names.proofs.declared.contains.Given as goal
 
 abbrev pub invariant-loop-other : goal.invariant-loop-other

@@ -1,6 +1,6 @@
 use Rattle.std.proofs.Common.{ℕ, ◌+◌, List, sym, ap, ◌∙◌, arith}
 use Rattle.lang_names.specs.Checked.{Checked, and_also}
-use Rattle.lang_names.specs.Known.{known_of}
+use Rattle.lang_names.specs.Settings.{known_of}
 use Rattle.lang_names.specs.Exprs.{left_of}
 use Rattle.lang_names.proofs.Told.{bean_err, bean_ok, fields_turn, new_checks}
 use Rattle.lang_names.proofs.exprs.+exprs.Goals as goal

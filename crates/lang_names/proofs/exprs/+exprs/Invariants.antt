@@ -1,5 +1,5 @@
 use Rattle.std.proofs.Common.{◌≡◌, drop, map}
-use Rattle.lang_names.specs.Known.{known_of}
+use Rattle.lang_names.specs.Settings.{known_of}
 use Rattle.lang_names.specs.Exprs.{told_of, all_checked, left_of}
 use Rattle.lang_names.proofs.exprs.+exprs.Given as goal
 

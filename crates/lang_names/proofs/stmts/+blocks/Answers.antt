@@ -1,6 +1,6 @@
 use Rattle.std.proofs.Common.{◌≡◌, Result, Err, map, sym, subst, arith}
 use Rattle.lang_names.specs.declared.wrong.NameFault.{NameFault}
-use Rattle.lang_names.specs.Known.{known_of}
+use Rattle.lang_names.specs.Settings.{known_of}
 use Rattle.lang_names.specs.Stmts.{Rights, block_right, passing}
 use Rattle.lang_names.proofs.Blocks.{blocked}
 use Rattle.lang_names.proofs.stmts.+blocks.Goals as goal

@@ -1,5 +1,5 @@
 use Rattle.std.proofs.Common.{◌≡◌, drop, map}
-use Rattle.lang_names.specs.Known.{known_of}
+use Rattle.lang_names.specs.Settings.{known_of}
 use Rattle.lang_names.specs.Stmts.{run, passing, Extends}
 use Rattle.lang_names.proofs.stmts.+blocks.Given as goal
 

@@ -1,5 +1,5 @@
 use Rattle.std.proofs.Common.{◌∙◌, ℕ, List, ap}
-use Rattle.lang_tokens.specs.declared.token.Token.TheVariants.{Name}
+use Rattle.lang_lexer.specs.declared.token.Token.TheVariants.{Name}
 use Rattle.lang_print.specs.Lines.{put}
 use Rattle.lang_print.proofs.Turns.{parts_turn, fields_turn, equal_puts, less_puts}
 use Rattle.lang_print.proofs.exprs.+exprs.Goals as goal

@@ -1,6 +1,6 @@
 use Rattle.std.proofs.Common.{rules, arith}
 use Rattle.std.proofs.lemmas.Grind.{common_steps}
-use Rattle.lang_tokens.specs.declared.token.Mark.TheVariants as mark
+use Rattle.lang_lexer.specs.declared.token.Mark.TheVariants as mark
 use Rattle.syntax_tree.specs.declared.tree.Expr.TheVariants as expr
 use Rattle.lang_grammar.specs.Place.{is}
 use Rattle.lang_grammar.specs.Rules as spec

@@ -1,5 +1,5 @@
 use Rattle.std.proofs.Common.{◌≡◌, ◌-◌}
-use Rattle.lang_tokens.specs.declared.token.Mark.TheVariants as mark
+use Rattle.lang_lexer.specs.declared.token.Mark.TheVariants as mark
 use Rattle.lang_grammar.specs.Place.{is}
 use Rattle.lang_grammar.specs.Rules as spec
 use Rattle.lang_reader.proofs.expr.links.Given as goal

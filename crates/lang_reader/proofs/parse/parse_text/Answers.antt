@@ -1,4 +1,4 @@
-use Rattle.lang_grammar.proofs.Texts.{sentence, only, stuck, first}
+use Rattle.lang_grammar.proofs.CallerLemmas.{sentence, only, stuck, first}
 use Rattle.lang_reader.proofs.parse.parse_text.Goals as goal
 
 pub returns-clause-sentence : goal.returns-clause-sentence

@@ -1,7 +1,7 @@
 use Rattle.std.proofs.Common.{◌∙◌, ap, map, refl}
 use Rattle.item_types.specs.declared.decl.Names.{Names}
 use Rattle.item_types.specs.declared.decl.BeanDecl.{BeanDecl}
-use Rattle.lang_grammar.specs.Naming.{bean_number}
+use Rattle.syntax_tree.specs.Naming.{bean_number}
 use Rattle.name_index.specs.Place.{place}
 use Rattle.name_directory.specs.Numbers.{number_at}
 use Rattle.name_directory.proofs.Found.{numbered}

@@ -1,7 +1,7 @@
 use Rattle.std.proofs.Common.{◌∙◌, ap, map, refl}
 use Rattle.item_types.specs.declared.decl.Names.{Names}
 use Rattle.item_types.specs.declared.decl.ItemDecl.{ItemDecl}
-use Rattle.lang_grammar.specs.Naming.{item_number}
+use Rattle.syntax_tree.specs.Naming.{item_number}
 use Rattle.name_index.specs.Place.{place}
 use Rattle.name_directory.specs.Numbers.{number_at}
 use Rattle.name_directory.proofs.Found.{numbered}

@@ -1,7 +1,7 @@
 -- Keywords and signs: how each is written, and when two are the same. This project's own.
 use Rattle.std.specs.Prelude.{ℕ, Bool, ◌==◌, List, codes}
-use Rattle.lang_tokens.specs.declared.token.Mark.{Mark}
-use Rattle.lang_tokens.specs.declared.token.Mark.TheVariants.{Let, Produce, For, In, If, Else, Call, Fail, Get, All, New, Len, True, False, Null, Me, Static, Add, Print, Return, Semi, Comma, Dot, Colon, Open, Close, OpenList, CloseList, OpenBlock, CloseBlock, Assign, Equal, Less, Plus, Bang, And}
+use Rattle.lang_lexer.specs.declared.token.Mark.{Mark}
+use Rattle.lang_lexer.specs.declared.token.Mark.TheVariants.{Let, Produce, For, In, If, Else, Call, Fail, Get, All, New, Len, True, False, Null, Me, Static, Add, Print, Return, Semi, Comma, Dot, Colon, Open, Close, OpenList, CloseList, OpenBlock, CloseBlock, Assign, Equal, Less, Plus, Bang, And}
 
 -- how it is written
 abbrev pub written : Mark → List ℕ

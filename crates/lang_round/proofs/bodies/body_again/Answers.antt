@@ -1,7 +1,7 @@
 use Rattle.std.proofs.Common.{List, ℕ, subst}
 use Rattle.lang_print.specs.Canonical.{text_of}
 use Rattle.step_lang.specs.Language.{IsBodyOf}
-use Rattle.step_round.proofs.law.body_again.Goals as goal
+use Rattle.lang_round.proofs.bodies.body_again.Goals as goal
 
 pub returns-clause-reads_back : goal.returns-clause-reads_back
 returns-clause-reads_back c = λ names decl b text u h. record { sentence = c.text_again.ensures.bodies names decl b.stmts text u h.sentence h.named; named = h.named }

@@ -2,9 +2,9 @@
 use Rattle.std.proofs.Common.{◌≡◌, ℕ, true, refl, sym, ap, ◌∙◌}
 use Rattle.std.specs.Prelude.{◌==◌, if◌then◌else◌}
 use Rattle.std.proofs.lemmas.Bool.{eqb-true}
-use Rattle.lang_tokens.specs.declared.token.Mark.{Mark}
-use Rattle.lang_tokens.specs.declared.token.Mark.TheVariants.{Let, Produce, For, In, If, Else, Call, Fail, Get, All, New, Len, True, False, Null, Me, Static, Add, Print, Return, Semi, Comma, Dot, Colon, Open, Close, OpenList, CloseList, OpenBlock, CloseBlock, Assign, Equal, Less, Plus, Bang, And}
-use Rattle.lang_tokens.specs.Marks.{code, same}
+use Rattle.lang_lexer.specs.declared.token.Mark.{Mark}
+use Rattle.lang_lexer.specs.declared.token.Mark.TheVariants.{Let, Produce, For, In, If, Else, Call, Fail, Get, All, New, Len, True, False, Null, Me, Static, Add, Print, Return, Semi, Comma, Dot, Colon, Open, Close, OpenList, CloseList, OpenBlock, CloseBlock, Assign, Equal, Less, Plus, Bang, And}
+use Rattle.lang_lexer.specs.Marks.{code, same}
 
 abbrev mark_at : ℕ → Mark
 mark_at n = (if n == 0 then Let else (if n == 1 then Produce else (if n == 2 then For else (if n == 3 then In else (if n == 4 then If else (if n == 5 then Else else (if n == 6 then Call else (if n == 7 then Fail else (if n == 8 then Get else (if n == 9 then All else (if n == 10 then New else (if n == 11 then Len else (if n == 12 then True else (if n == 13 then False else (if n == 14 then Null else (if n == 15 then Me else (if n == 16 then Static else (if n == 17 then Add else (if n == 18 then Print else (if n == 19 then Return else (if n == 20 then Semi else (if n == 21 then Comma else (if n == 22 then Dot else (if n == 23 then Colon else (if n == 24 then Open else (if n == 25 then Close else (if n == 26 then OpenList else (if n == 27 then CloseList else (if n == 28 then OpenBlock else (if n == 29 then CloseBlock else (if n == 30 then Assign else (if n == 31 then Equal else (if n == 32 then Less else (if n == 33 then Plus else (if n == 34 then Bang else And)))))))))))))))))))))))))))))))))))

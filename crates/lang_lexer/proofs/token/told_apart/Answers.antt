@@ -1,5 +1,5 @@
-use Rattle.lang_tokens.proofs.Marked.{same_is, same_self}
-use Rattle.lang_tokens.proofs.token.told_apart.Goals as goal
+use Rattle.lang_lexer.proofs.Marked.{same_is, same_self}
+use Rattle.lang_lexer.proofs.token.told_apart.Goals as goal
 
 pub returns-clause-only : goal.returns-clause-only
 returns-clause-only c = same_is

@@ -6,7 +6,7 @@ use Rattle.item_types.specs.declared.decl.BeanDecl.{BeanDecl}
 use Rattle.item_types.specs.declared.decl.MethodSig.{MethodSig}
 use Rattle.item_types.specs.declared.decl.RecorderDecl.{RecorderDecl}
 use Rattle.item_types.specs.declared.decl.Names.{Names}
-pub use Rattle.syntax_tree.specs.Undeclared.{no_number}
+use Rattle.syntax_tree.specs.Undeclared.{no_number}
 
 -- the place of the first of these that has this name, counted on from a number; none has the last number
 abbrev pub place_of : {A : Type 0} → (A → List ℕ) → ℕ → List A → List ℕ → ℕ

@@ -7,7 +7,7 @@ ghost use Rattle.syntax_tree.specs.declared.tree.Method.{Method};
 ghost use Rattle.lang_print.specs.Canonical.{text_of};
 ghost use Rattle.step_lang.specs.Language.{IsBodyOf, IsMethodOf};
 
-use lang_round::text_again;
+use crate::law::text_again;
 use step_lang::{one_body, one_method};
 
 /// The canonical text of a step's body is this body again, and different bodies have different
