@@ -1,1 +1,4 @@
 mod Judged
+mod Trees
+mod RightExprs
+mod RightStmts

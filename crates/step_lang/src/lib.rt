@@ -8,7 +8,7 @@ mod parse;
 mod print;
 
 pub use lang_grammar::LangFault;
-pub use law::{one_body, one_method};
+pub use law::{answers_are_sentences, one_body, one_method, read_is_right};
 pub use name_directory::{Directory, Register};
 pub use parse::{parse_body, parse_body_in, parse_method, parse_method_in};
 pub use print::{print_body, print_method};
