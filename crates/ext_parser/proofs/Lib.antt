@@ -2,8 +2,10 @@ pub mod Keys
 pub mod Whole
 pub mod Rows
 pub mod Trees
+pub mod Texts
 pub mod Numbers
 pub mod Apart
 pub mod Distinct
 pub mod Steps
 pub mod Sound
+pub mod NameTokens

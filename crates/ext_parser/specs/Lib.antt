@@ -3,3 +3,4 @@ pub mod SecondWalk
 pub mod Declarations
 pub mod ThirdWalk
 pub mod ProjectOfTheBytes
+pub mod RightTexts

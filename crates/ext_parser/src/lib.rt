@@ -18,7 +18,9 @@ mod third_walk;
 
 pub use ext_draft::is_name;
 pub use fault::ProjectFault;
-pub use laws::{project_fits, project_is_numbered, project_of_cut_bytes};
+pub use laws::{
+    names_are_tokens, project_fits, project_is_numbered, project_of_cut_bytes, texts_are_right,
+};
 pub use project::Project;
 pub use project_fit::{fits, fitting_is_numbered};
 pub use read::read_project;
