@@ -13,6 +13,3 @@ pub use name_directory::{Directory, Register};
 pub use parse::{parse_body, parse_body_in, parse_method, parse_method_in};
 pub use print::{print_body, print_method};
 pub use syntax_tree::{Body, Expr, Invoke, Link, Method, Methods, Stmt};
-
-#[cfg(test)]
-mod tests;
