@@ -13,6 +13,15 @@ struct Shared<'j> {
     state: BuildState<'j>,
     /// How many workers hold a step.
     busy: u32,
+    /// How many workers wait for one.
+    waiting: u32,
+}
+
+/// What a finished step leaves: the steps that it released, and how many workers wait for one.
+#[derive(Drop)]
+pub(crate) struct Left {
+    pub(crate) released: Seq<u32>,
+    pub(crate) waiting: u32,
 }
 
 impl<'j> Shared<'j> {
@@ -37,18 +46,22 @@ impl<'j> Shared<'j> {
     }
 
     /// Has a worker that holds a step finish it. Want of memory halts the state.
-    fn finish(&mut self, alloc: Global, made: Result<Work<'j>, Memory>) -> Seq<u32> {
+    fn finish(&mut self, alloc: Global, made: Result<Work<'j>, Memory>) -> Left {
         self.busy = self.busy.saturating_sub(1);
         let done = match made {
             Ok(work) => finish(alloc, &mut self.state, work),
             Err(Memory) => Err(Memory),
         };
-        match done {
+        let released = match done {
             Ok(released) => released,
             Err(Memory) => {
                 self.state.note_memory();
                 Seq::new(alloc)
             }
+        };
+        Left {
+            released,
+            waiting: self.waiting,
         }
     }
 }
@@ -64,7 +77,11 @@ impl<'j> Desk<'j> {
     /// A desk with this state.
     pub(crate) fn new(state: BuildState<'j>) -> Desk<'j> {
         Desk {
-            lock: Mutex::new(Shared { state, busy: 0 }),
+            lock: Mutex::new(Shared {
+                state,
+                busy: 0,
+                waiting: 0,
+            }),
             bell: Condvar::new(),
         }
     }
@@ -72,7 +89,11 @@ impl<'j> Desk<'j> {
     /// The state, once all workers have left.
     pub(crate) fn into_state(self) -> BuildState<'j> {
         let Desk { lock, bell: _ } = self;
-        let Shared { state, busy: _ } = lock.into_inner();
+        let Shared {
+            state,
+            busy: _,
+            waiting: _,
+        } = lock.into_inner();
         state
     }
 
@@ -96,28 +117,29 @@ impl<'j> Desk<'j> {
                 self.bell.notify_all();
                 return None;
             }
-            drop(self.bell.wait(rt, shared));
+            shared.waiting = shared.waiting.saturating_add(1);
+            let mut woken = self.bell.wait(rt, shared);
+            woken.waiting = woken.waiting.saturating_sub(1);
+            drop(woken);
         }
         unreachable!()
     }
 
-    /// Has a worker finish its step, and gives the steps that it released.
+    /// Has a worker finish its step.
     pub(crate) fn finish<R: Wait>(
         &self,
         rt: &R,
         alloc: Global,
         made: Result<Work<'j>, Memory>,
-    ) -> Seq<u32> {
+    ) -> Left {
         self.lock.lock(rt).finish(alloc, made)
     }
 
-    /// Wakes those who wait, where there are more released steps than the one that the worker
-    /// goes on with.
-    pub(crate) fn wake_for(&self, released: usize) {
-        match released {
-            0 | 1 => {}
-            2 => self.bell.notify_one(),
-            _ => self.bell.notify_all(),
+    /// Wakes one who waits for each released step but the one that the worker goes on with.
+    pub(crate) fn wake_for(&self, left: &Left) {
+        let others = left.released.len().saturating_sub(1);
+        for _ in 0..others.min(left.waiting as usize) {
+            self.bell.notify_one();
         }
     }
 }

@@ -101,9 +101,9 @@ fn turn<'j, R: Wait, G: Gate>(
     let Claimed { job, step, inputs } = claimed;
     gate.pause(worker, step);
     let made = Work::make(alloc, job, step, inputs);
-    let released = desk.finish(rt, alloc, made);
-    for step in released.as_slice() {
+    let left = desk.finish(rt, alloc, made);
+    for step in left.released.as_slice() {
         hands.offer(*step);
     }
-    desk.wake_for(released.len());
+    desk.wake_for(&left);
 }
