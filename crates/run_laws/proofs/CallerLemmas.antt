@@ -1,12 +1,12 @@
 -- Whose an event is, is told by its text.
-use Rattle.std.proofs.Common.{◌≡◌, ℕ, zero, suc, ◌<◌, ◌≤◌, ◌+◌, length, List, [], ◌∷◌, ◌++◌, arith, Bool, true, false, cond, refl, sym, ap, ◌∙◌, subst, append_assoc, codes}
+use Rattle.std.proofs.Common.{◌≡◌, ℕ, suc, ◌<◌, length, List, [], ◌∷◌, ◌++◌, refl, sym, ap, ◌∙◌, append_assoc, codes}
 use Rattle.build_history.specs.declared.event.Event.{Event}
 use Rattle.build_history.specs.declared.event.Event.TheVariants.{Start, Take, Put, End, Fail}
 use Rattle.build_history.specs.Events.{step_of}
 use Rattle.build_history.specs.Jobs.{JobView}
 use Rattle.build_history.specs.EventText.{step_text, word_of, rest_text, event_text}
-use Rattle.run_laws.specs.Lines.{first_lines, feeds, before_stop, line_name}
-use Rattle.run_laws.specs.Named.{is_plain, IsNamed}
+use Rattle.run_laws.specs.Lines.{first_lines, before_stop, line_name}
+use Rattle.run_laws.specs.Named.{IsNamed}
 use Rattle.run_laws.proofs.Lines.{before_stop-plain, line_name-first}
 
 -- a word of an event is passed over

@@ -1,6 +1,6 @@
 -- Each proxy that a step takes stands for what an earlier step keeps, which has ended.
-use Rattle.std.proofs.Common.{◌≡◌, ℕ, zero, suc, ◌<◌, ◌≤◌, ◌+◌, length, get_or, List, [], ◌∷◌, ◌++◌, Contains, All, Bool, true, false, ◌==◌, cond, refl, sym, ap, ◌∙◌, subst, arith, append_assoc, length-append, ◌⊎◌, inl, inr}
-use Rattle.std.specs.Prelude.{Option, Some, None, slice_get, slice_index_or}
+use Rattle.std.proofs.Common.{◌≡◌, ℕ, zero, suc, ◌<◌, ◌≤◌, length, get_or, List, [], ◌∷◌, ◌++◌, Contains, Bool, true, false, ◌==◌, cond, refl, sym, ap, ◌∙◌, subst, arith, append_assoc, length-append, ◌⊎◌, inl, inr}
+use Rattle.std.specs.Prelude.{Some, slice_get, slice_index_or}
 use Rattle.std.specs.List.{filter, flat_map}
 use Rattle.std.proofs.lemmas.Bool.{eqb-true}
 use Rattle.std.proofs.lemmas.Grind.{flat_map-append}
@@ -18,7 +18,7 @@ use Rattle.value_order.specs.Found.{kind_of}
 use Rattle.value_order.proofs.CallerLemmas.{All-found}
 use Rattle.step_state.specs.declared.outcome.Outcome.{Outcome}
 use Rattle.step_state.specs.declared.outcome.Outcome.TheVariants.{Done, Fails}
-use Rattle.step_eval.specs.KnownProxies.{IsOwn, IsKnown, HasKnown, IsRecorded}
+use Rattle.step_eval.specs.KnownProxies.{IsKnown, HasKnown, IsRecorded}
 use Rattle.step_eval.specs.Setting.{Setting}
 use Rattle.build_history.specs.declared.event.Event.{Event}
 use Rattle.build_history.specs.declared.event.Event.TheVariants.{Start, Take, Put, End, Fail}

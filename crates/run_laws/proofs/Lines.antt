@@ -1,4 +1,4 @@
-use Rattle.std.proofs.Common.{◌≡◌, ℕ, zero, suc, ◌<◌, ◌≤◌, ◌+◌, length, List, [], ◌∷◌, ◌++◌, arith, Bool, true, false, ◌||◌, ◌&&◌, ◌==◌, cond, refl, sym, ap, ◌∙◌, subst, append_assoc, codes, not}
+use Rattle.std.proofs.Common.{◌≡◌, ℕ, zero, suc, ◌≤◌, ◌+◌, List, [], ◌∷◌, ◌++◌, arith, Bool, true, false, ◌||◌, ◌&&◌, ◌==◌, cond, refl, sym, ap, ◌∙◌, not}
 use Rattle.run_laws.specs.Lines.{first_lines, feeds, before_stop, line_name}
 use Rattle.run_laws.specs.Named.{is_plain}
 

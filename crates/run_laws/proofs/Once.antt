@@ -1,6 +1,6 @@
 -- A job has at most one least-first run.
-use Rattle.std.proofs.Common.{◌≡◌, ◌≢◌, ℕ, zero, suc, ◌<◌, ◌≤◌, ◌+◌, length, get_or, List, [], ◌∷◌, ◌++◌, Contains, arith, Bool, true, false, ◌||◌, ◌==◌, cond, refl, sym, ap, ◌∙◌, subst, append_assoc, ◌⊎◌, inl, inr}
-use Rattle.std.specs.Prelude.{Option, Some, None, slice_get}
+use Rattle.std.proofs.Common.{◌≡◌, ◌≢◌, ℕ, zero, suc, ◌<◌, length, get_or, List, [], ◌∷◌, ◌++◌, Contains, arith, Bool, true, false, ◌||◌, ◌==◌, cond, refl, sym, ap, ◌∙◌, subst, append_assoc, ◌⊎◌, inl, inr}
+use Rattle.std.specs.Prelude.{Some, None, slice_get}
 use Rattle.std.proofs.lemmas.Bool.{eqb-true, eqb-false, eq-eqb}
 use Rattle.std.proofs.lemmas.Grind.{flat_map-append}
 use Rattle.std.proofs.lemmas.List.{append-nil}
@@ -11,12 +11,11 @@ use Rattle.item_types.specs.declared.value.Value.{Value}
 use Rattle.recorder_proxy.specs.declared.call.Call.{Call}
 use Rattle.step_state.specs.declared.outcome.Outcome.{Outcome}
 use Rattle.step_state.specs.declared.outcome.Outcome.TheVariants.{Done, Fails}
-use Rattle.step_state.specs.declared.outcome.Reason.{Reason}
 use Rattle.build_history.specs.declared.event.Event.{Event}
 use Rattle.build_history.specs.declared.event.Event.TheVariants.{Start, Take, Put, End, Fail}
 use Rattle.build_history.specs.Events.{step_of, events_of, taken, ended, end_of, has_failed}
-use Rattle.build_history.specs.Jobs.{JobView, Needs, Precedes, consumes_at, meaning_at}
-use Rattle.build_history.specs.Kinds.{IsComplete, IsFailed, IsFinished, MayStart, IsLeastFirst}
+use Rattle.build_history.specs.Jobs.{JobView, consumes_at, meaning_at}
+use Rattle.build_history.specs.Kinds.{IsFinished, IsLeastFirst}
 use Rattle.build_history.specs.Runs.{IsOneThreadRun}
 use Rattle.build_history.specs.Scripts.{takes_of, puts_of, kept, rest_of, opening}
 use Rattle.build_history.proofs.CallerLemmas.{run_nil, has_failed-append, Begun, giving_value, unfailed, begun_in, follow_is, follow_run}

@@ -1,9 +1,9 @@
 -- The recordings of a run can be played.
-use Rattle.std.proofs.Common.{◌≡◌, ◌≢◌, ℕ, zero, suc, ◌<◌, ◌≤◌, ◌+◌, length, List, [], ◌∷◌, ◌++◌, map, Contains, All, Bool, true, false, not, ◌||◌, ◌==◌, cond, refl, sym, ap, ◌∙◌, subst, arith, append_assoc, length-append, ◌⊎◌, inl, inr}
-use Rattle.std.specs.Prelude.{Option, Some, None, IsTrue, if◌then◌else◌}
+use Rattle.std.proofs.Common.{◌≡◌, ◌≢◌, ℕ, ◌<◌, ◌≤◌, length, List, [], ◌∷◌, ◌++◌, map, Contains, All, Bool, true, false, not, ◌||◌, ◌==◌, cond, refl, sym, ap, ◌∙◌, subst, arith, ◌⊎◌, inl, inr}
+use Rattle.std.specs.Prelude.{Option, Some, None, if◌then◌else◌}
 use Rattle.std.specs.List.{filter, flat_map, list_any, find, IsDistinct, AllByRecursion}
 use Rattle.std.proofs.lemmas.Map.Steps.{length-le_from_distinct_below}
-use Rattle.std.proofs.lemmas.Bool.{eqb-true, eqb-false, eq-eqb, ne_eqb, cases_lt}
+use Rattle.std.proofs.lemmas.Bool.{eqb-true, ne_eqb}
 use Rattle.std.proofs.lemmas.Grind.{flat_map-append}
 use Rattle.std.proofs.lemmas.List.{append-nil, length-map}
 use Rattle.std.proofs.lemmas.List.Elements.{Contains-append_cases, Contains-append_left, Contains-append_right, All-weaker, All-contains, All-contains_itself, All-head, All-tail, filter-append}
@@ -11,15 +11,14 @@ use Rattle.item_types.specs.declared.step.Phase.{Phase}
 use Rattle.item_types.specs.declared.step.Phase.TheVariants.{Static, Runtime}
 use Rattle.item_types.specs.declared.value.Proxy.{Proxy}
 use Rattle.item_types.specs.declared.value.Value.{Value}
-use Rattle.recorder_proxy.specs.Playable.{EachAfter, Keeps, IsKept, NamesKept, CallsNameKept, HasNoStep, IsStaticFirst, IsWithin, IsPlayable}
+use Rattle.recorder_proxy.specs.Playable.{EachAfter, Keeps, IsKept, CallsNameKept, HasNoStep, IsStaticFirst, IsWithin, IsPlayable}
 use Rattle.recorder_proxy.specs.Proxies.{proxies, is_runtime, first_runtime}
 use Rattle.recorder_proxy.specs.declared.call.Call.{Call}
 use Rattle.recorder_proxy.specs.declared.call.Recording.{Recording}
-use Rattle.step_eval.specs.KnownProxies.{IsOwn, IsKnown, HasKnown, IsRecorded}
-use Rattle.step_state.specs.declared.outcome.Outcome.TheVariants.{Done}
+use Rattle.step_eval.specs.KnownProxies.{IsKnown}
 use Rattle.build_history.specs.declared.event.Event.{Event}
 use Rattle.build_history.specs.declared.event.Event.TheVariants.{Start, Take, Put, End, Fail}
-use Rattle.build_history.specs.Events.{step_of, events_of, taken, ended, end_of}
+use Rattle.build_history.specs.Events.{events_of, taken, ended, end_of}
 use Rattle.build_history.specs.Jobs.{JobView, decl_at, meaning_at}
 use Rattle.build_history.specs.Recordings.{is_of, recorded, recordings}
 use Rattle.build_history.specs.Runs.{IsOneThreadRun}
