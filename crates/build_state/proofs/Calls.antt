@@ -1,5 +1,5 @@
 -- What each call makes of the value that callers see, and what the parts of a state have.
-use Rattle.std.proofs.Common.{◌≡◌, ◌≢◌, ◌↔◌, IfSome, IfNone, ℕ, ◌<◌, ◌≤◌, ◌+◌, ◌-◌, length, get_or, set, take, List, [], ◌∷◌, ◌++◌, Contains, All, ◌⊎◌, inl, inr, arith, Bool, false, not, ◌==◌, cond, refl, sym, ap, ◌∙◌, subst, length-append, Option, Some, None, true}
+use Rattle.std.proofs.Common.{◌≡◌, ◌≢◌, ◌↔◌, IfSome, IfNone, ℕ, ◌<◌, ◌≤◌, ◌+◌, ◌-◌, length, get_or, set, take, List, [], ◌∷◌, ◌++◌, Contains, All, inl, inr, arith, Bool, false, not, ◌==◌, cond, refl, sym, ap, ◌∙◌, subst, length-append, Option, Some, None, true}
 use Rattle.std.proofs.lemmas.Bool.{cases_lt}
 use Rattle.std.proofs.lemmas.List.{get_or_past, get_or_read, get_or_default, set-get_or, length-take-le}
 use Rattle.std.proofs.lemmas.List.Elements.{Contains-get_or, All-weaker, All-contains_itself}
@@ -31,7 +31,7 @@ use Rattle.step_set.specs.Members.{Has, IsWithAll}
 use Rattle.recorder_proxy.specs.declared.call.Call.{Call}
 use Rattle.step_state.specs.declared.outcome.Reason.{Reason}
 use Rattle.build_state.specs.Rooms.{IsKeyed, IsSmall, IsRoomier}
-use Rattle.build_state.specs.Sound.{IsSound, IsReleasedSet}
+use Rattle.build_state.specs.Sound.{IsSound}
 use Rattle.build_state.specs.Stages.{Shows}
 use Rattle.build_state.specs.declared.mark.Stage.TheVariants as stage
 use Rattle.build_state.proofs.Moves.{on_view, putting_has, one_event, take_call, fail_call, end_call}

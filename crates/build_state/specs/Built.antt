@@ -1,5 +1,5 @@
 -- A build state as its callers see it, and what each call makes of it. This project's own.
-use Rattle.std.specs.Prelude.{◌≡◌, ℕ, ◌+◌, ◌<◌, ◌==◌, ◌||◌, Bool, false, cond, List, [], ◌∷◌, ◌++◌, length, slice_set, Contains, Some, None}
+use Rattle.std.specs.Prelude.{◌≡◌, ℕ, ◌+◌, ◌<◌, ◌==◌, ◌||◌, Bool, cond, List, [], ◌∷◌, ◌++◌, length, slice_set, Contains, Some, None}
 use Rattle.item_types.specs.declared.value.Value.{Value}
 use Rattle.step_state.specs.declared.outcome.Outcome.{Outcome}
 use Rattle.step_state.specs.declared.outcome.Outcome.TheVariants.{Done, Fails}
