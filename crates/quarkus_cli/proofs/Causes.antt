@@ -15,13 +15,12 @@ use Rattle.ext_parser.specs.declared.project.Project.{Project}
 use Rattle.command_words.specs.declared.command.Command.{Command}
 use Rattle.quarkus_cli.specs.declared.outcome.Outcome.{Outcome}
 use Rattle.command_words.specs.Words.{command_of}
-use Rattle.command_words.specs.declared.command.Command.TheVariants.{Build}
 use Rattle.build_history.specs.declared.event.Event.{Event}
 use Rattle.build_history.specs.Kinds.{IsComplete, IsFailed}
 use Rattle.project_job.specs.JobOf.{job_of}
 use Rattle.quarkus_cli.specs.Builds.{OfBuild}
-use Rattle.quarkus_cli.specs.Outcomes.{CommandOutcome, IsAcceptedProject, OfRead, OfFile, OfChain, OfPlan, OutcomeBy, Told, WordsOutcome}
-use Rattle.quarkus_cli.specs.Answers.{Outside, Quiet, IsFinal, AnswersCommand, AnswersWords}
+use Rattle.quarkus_cli.specs.Outcomes.{IsAcceptedProject, OfRead, OfFile, OfChain, OfPlan, OutcomeBy, WordsOutcome}
+use Rattle.quarkus_cli.specs.Answers.{Outside, Quiet, IsFinal, AnswersWords}
 use Rattle.quarkus_cli.specs.Causes.{HoldsProject, HoldsNoProject, TellsBuild, CanCount}
 use Rattle.quarkus_cli.proofs.Kept.{four_failed, failed_four, zero_well, well_zero}
 use Rattle.quarkus_cli.proofs.Projects.{EndsWell, plan_ends, build_ends, status_of}
@@ -151,7 +150,7 @@ pub refused_is : (words : List (List ℕ)) (files : Option Files) (o : Outcome) 
 refused_is words files o of = refused_by (command_of words) files o of
 
 -- a status is final, or one of the three that are not
-kinds : (n : ℕ) → n ≤ 11 → IsFinal n ⊎ ((n ≡ 6) ⊎ ((n ≡ 7) ⊎ (n ≡ 8)))
+pub kinds : (n : ℕ) → n ≤ 11 → IsFinal n ⊎ ((n ≡ 6) ⊎ ((n ≡ 7) ⊎ (n ≡ 8)))
 kinds n known =
     elim (cases_lt n 6) [
       | inl low ↦ inl (inl (omega arith))
@@ -161,7 +160,7 @@ kinds n known =
       ]
     ]
 
-not_risen : (before now : ℕ) → before < 2 ^ 64 - 1 → now ≡ before → Rose before now → ⊥
+pub not_risen : (before now : ℕ) → before < 2 ^ 64 - 1 → now ≡ before → Rose before now → ⊥
 not_risen before now room same rose = omega (arith, room, same, rose)
 
 pub answered : (words : List (List ℕ)) (before now : Outside) (status : ℕ) → AnswersWords words before now status → CanCount before → Quiet before now
@@ -180,36 +179,6 @@ answered words before now status a room quiet =
             | inr rose ↦ not_risen before.sink.faults now.sink.faults room.puts quiet.puts rose
           ])
           | inr eight ↦ inl eight
-        ]
-      ]
-    ]
-
-told_build : (file out : List ℕ) (workers : ℕ) (files : Option Files) (m : Files) (o : Outcome) → files ≡ Some m → Told (CommandOutcome (Build file out workers)) files o
-    → OfFile (OfChain (OfBuild out workers)) (m file) o
-told_build file out workers None m o is told = absurd (cc)
-told_build file out workers (Some k) m o is told = let e : k ≡ m = cc in subst (λ (k : Files). OfFile (OfChain (OfBuild out workers)) (k file) o) e told.1
-
-pub accepted_built : NoFaultIsAccepted → (file out : List ℕ) (workers : ℕ) (before now : Outside) (status : ℕ) (m : Files) (p : Project)
-    → AnswersCommand (Build file out workers) before now status → CanCount before → Quiet before now → before.shelf.files ≡ Some m → HoldsProject (m file) p
-    → IsAcceptedProject p → (status ≡ 0) ⊎ ((status ≡ 4) ⊎ (status ≡ 8))
-accepted_built law file out workers before now status m p a room quiet files holds accepted =
-    let well = λ (o : Outcome) (told : Told (CommandOutcome (Build file out workers)) before.shelf.files o).
-    build_ends out workers p o (accepted_done law (OfBuild out workers) (build_ends out workers) (m file) o p (told_build file out workers before.shelf.files m o files told) holds accepted) in
-    elim (kinds status a.known) [
-      | inl final ↦
-          let d = a.done final in
-          elim (well d.0 d.1) [ inl z ↦ inl (sym d.2 ∙ z) | inr f ↦ inr (inl (sym d.2 ∙ f)) ]
-      | inr other ↦ elim other [
-        | inl six ↦ absurd (elim (a.missing six) [
-          | inl lacks ↦ not_well lacks.1.0.status 6 (well lacks.1.0 lacks.1.1) lacks.1.2 (λ e. omega (arith, e)) (λ e. omega (arith, e))
-          | inr rose ↦ not_risen before.shelf.read_faults now.shelf.read_faults room.reads quiet.reads rose
-        ])
-        | inr more ↦ elim more [
-          | inl seven ↦ absurd (elim (a.failed seven) [
-            | inl rose ↦ not_risen before.shelf.write_faults now.shelf.write_faults room.writes quiet.writes rose
-            | inr rose ↦ not_risen before.sink.faults now.sink.faults room.puts quiet.puts rose
-          ])
-          | inr eight ↦ inr (inr eight)
         ]
       ]
     ]

@@ -8,7 +8,7 @@ use Rattle.aug_base.specs.declared.errors.ShelfErr.{ShelfErr}
 use Rattle.aug_base.specs.declared.errors.SinkErr.{SinkErr}
 use Rattle.quarkus_cli.specs.declared.outcome.Outcome.{Outcome}
 use Rattle.quarkus_cli.specs.Outcomes.{Told, nothing, absent}
-use Rattle.quarkus_cli.specs.Answers.{Outside, outside, Later, Done, DoneInPart, IsFinal, Answers}
+use Rattle.quarkus_cli.specs.Answers.{Outside, outside, Later, Done, FilesInPart, TextInPart, DoneInPart, IsFinal, Answers}
 use Rattle.quarkus_cli.specs.Ends.{Stopped, WritesAll, Delivers}
 
 lacks_told : (name : List ℕ) (files : Option Files) → Lacks files name → IsSome files
@@ -31,15 +31,11 @@ pub told_read : (allows : Files → Outcome → Type 0) (name bytes : List ℕ) 
 told_read allows name bytes limit None o not at holds = (not, tt)
 told_read allows name bytes limit (Some m) o not at holds = (not, at m holds)
 
-pub told_nothing : (allows : Files → Outcome → Type 0) (files : Option Files) → ((m : Files) → allows m nothing) → Told allows files nothing
-told_nothing allows None at = (λ is. omega (arith, is), tt)
-told_nothing allows (Some m) at = (λ is. omega (arith, is), at m)
-
 same_files : (before now : Option Files) → now ≡ before → now ≡ option_map (with_files []) before
 same_files None now is = is
 same_files (Some m) now is = is
 
-same_text : (before : Option (List ℕ)) → before ≡ option_map (λ s. s ++ []) before
+pub same_text : (before : Option (List ℕ)) → before ≡ option_map (λ s. s ++ []) before
 same_text None = refl
 same_text (Some s) = ap Some (sym (append-nil s))
 
@@ -47,7 +43,14 @@ pub nothing_done : (before now : Shelved) (sink : Taken) → now.files ≡ befor
     → Done nothing (outside before sink) (outside now sink)
 nothing_done before now sink is = record { files = same_files before.files now.files is; text = same_text sink.bytes }
 
-not_final : (n : ℕ) → IsFinal n → 6 ≤ n → n ≤ 8 → ⊥
+-- nothing of an outcome is done yet
+pub not_begun : (o : Outcome) (shelf : Shelved) (sink : Taken) → DoneInPart o (outside shelf sink) (outside shelf sink)
+not_begun o shelf sink =
+    let part : FilesInPart o (outside shelf sink) (outside shelf sink)
+    = record { files = ([], (o.files, (refl, inl (same_files shelf.files shelf.files refl)))); text = refl } in
+    inl part
+
+pub not_final : (n : ℕ) → IsFinal n → 6 ≤ n → n ≤ 8 → ⊥
 not_final n final low high = elim final [ inl h ↦ omega (arith, h, low) | inr h ↦ omega (arith, h.0, high) ]
 
 at_most_eleven : (n : ℕ) → IsFinal n → n ≤ 11
@@ -57,7 +60,8 @@ at_most_eleven n final = elim final [ inl h ↦ omega (arith, h) | inr h ↦ h.1
 pub unwritten : (o : Outcome) (before now : Shelved) (sink : Taken) (fault : ShelfErr) (answer : ℕ) → WritesAll o.files before now (Err fault)
     → (answer ≡ 8) ⊎ ((answer ≡ 7) × Rose before.write_faults now.write_faults) → Delivers o (outside before sink) (outside now sink) answer
 unwritten o before now sink fault answer writes cause =
-    let part : DoneInPart o (outside before sink) (outside now sink) = record { files = writes.err; text = ([], (o.text, refl), same_text sink.bytes) } in
+    let some : FilesInPart o (outside before sink) (outside now sink) = record { files = writes.err; text = refl } in
+    let part : DoneInPart o (outside before sink) (outside now sink) = inl some in
     record {
       reads = writes.reads;
       later = record { reads = omega (arith, writes.reads); writes = writes.later; puts = omega arith };
@@ -69,8 +73,9 @@ pub unsaid : (o : Outcome) (before now : Shelved) (sink then : Taken) (text : Li
     → text ≡ o.text → PutsAll text sink then (Err fault) → (answer ≡ 8) ⊎ ((answer ≡ 7) × Rose sink.faults then.faults)
     → Delivers o (outside before sink) (outside now then) answer
 unsaid o before now sink then text fault answer writes is puts cause =
-    let part : DoneInPart o (outside before sink) (outside now then) =
-    record { files = (o.files, [], sym (append-nil o.files), inl writes.ok); text = subst (λ t. GrowsBySome t sink.bytes then.bytes) is puts.err } in
+    let some : TextInPart o (outside before sink) (outside now then)
+    = record { writes = writes.kept; files = writes.ok; text = subst (λ t. GrowsBySome t sink.bytes then.bytes) is puts.err } in
+    let part : DoneInPart o (outside before sink) (outside now then) = inr some in
     record {
       reads = writes.reads;
       later = record { reads = omega (arith, writes.reads); writes = writes.later; puts = puts.later };
@@ -89,11 +94,13 @@ module _ (Allows Stops : Outcome → Type 0) where
     missing = λ _. cause;
     missing_leaves = λ _. (o, stops, done);
     failed = λ is. absurd (omega (arith, is));
-    stopped = λ is. inl (o, stops, done);
+    failed_leaves = λ is. absurd (omega (arith, is));
+    spent_leaves = λ is. absurd (omega (arith, is));
   }
 
-  pub no_memory : (before now : Outside) → Later before now → (o : Outcome) → Stops o → Done o before now → Answers Allows Stops before now 8
-  no_memory before now later o stops done = record {
+  pub no_memory : (before now : Outside) → Later before now
+      → ((o : Outcome) × Stops o × Done o before now) ⊎ ((o : Outcome) × Allows o × DoneInPart o before now) → Answers Allows Stops before now 8
+  no_memory before now later left = record {
     known = omega arith;
     later = later;
     quiet = λ final. absurd (not_final 8 final (omega arith) (omega arith));
@@ -101,7 +108,8 @@ module _ (Allows Stops : Outcome → Type 0) where
     missing = λ is. absurd (omega (arith, is));
     missing_leaves = λ is. absurd (omega (arith, is));
     failed = λ is. absurd (omega (arith, is));
-    stopped = λ is. inl (o, stops, done);
+    failed_leaves = λ is. absurd (omega (arith, is));
+    spent_leaves = λ _. left;
   }
 
   -- a read that stops a command
@@ -113,7 +121,7 @@ module _ (Allows Stops : Outcome → Type 0) where
       = record { reads = stopped.reads; writes = omega (arith, stopped.writes); puts = omega arith } in
       let done = nothing_done before now sink stopped.files in
       elim stopped.cases [
-        | inl m ↦ rw m (no_memory _ _ later nothing stops done)
+        | inl m ↦ rw m (no_memory _ _ later (inl (nothing, stops, done)))
         | inr c ↦ rw c.0 (unread _ _ later nothing stops done (elim c.1 [
           | inl lacks ↦ inl (lacks_told name before.files lacks, (absent, at lacks, refl))
           | inr rose ↦ inr rose
@@ -124,8 +132,8 @@ module _ (Allows Stops : Outcome → Type 0) where
       → now.read_faults ≡ before.read_faults → now.write_faults ≡ before.write_faults
       → Answers Allows Stops (outside before sink) (outside now sink) 8
   stopped_memory before now sink stops files reads writes =
-      no_memory _ _ (record { reads = omega (arith, reads); writes = omega (arith, writes); puts = omega arith }) nothing stops
-      (nothing_done before now sink files)
+      no_memory _ _ (record { reads = omega (arith, reads); writes = omega (arith, writes); puts = omega arith })
+      (inl (nothing, stops, nothing_done before now sink files))
 
   -- an outcome that is delivered last
   pub delivered_at : (o : Outcome) (before now : Outside) (answer : ℕ) → Allows o → IsFinal o.status
@@ -141,7 +149,8 @@ module _ (Allows Stops : Outcome → Type 0) where
           missing = λ is. absurd (no (omega (arith, is)) (omega (arith, is)));
           missing_leaves = λ is. absurd (no (omega (arith, is)) (omega (arith, is)));
           failed = λ is. absurd (no (omega (arith, is)) (omega (arith, is)));
-          stopped = λ is. absurd (elim is [ inl e ↦ no (omega (arith, e)) (omega (arith, e)) | inr e ↦ no (omega (arith, e)) (omega (arith, e)) ]);
+          failed_leaves = λ is. absurd (no (omega (arith, is)) (omega (arith, is)));
+          spent_leaves = λ is. absurd (no (omega (arith, is)) (omega (arith, is)));
         })
         | inr d ↦ elim d [
           | inl c ↦ rw c.0 (record {
@@ -152,7 +161,8 @@ module _ (Allows Stops : Outcome → Type 0) where
             missing = λ is. absurd (omega (arith, is));
             missing_leaves = λ is. absurd (omega (arith, is));
             failed = λ _. c.1;
-            stopped = λ _. inr (o, allows, c.2);
+            failed_leaves = λ _. (o, allows, (λ six. no (omega (arith, six)) (omega (arith, six))), c.2);
+            spent_leaves = λ is. absurd (omega (arith, is));
           })
           | inr c ↦ rw c.0 (record {
             known = omega arith;
@@ -162,7 +172,8 @@ module _ (Allows Stops : Outcome → Type 0) where
             missing = λ is. absurd (omega (arith, is));
             missing_leaves = λ is. absurd (omega (arith, is));
             failed = λ is. absurd (omega (arith, is));
-            stopped = λ _. inr (o, allows, c.1);
+            failed_leaves = λ is. absurd (omega (arith, is));
+            spent_leaves = λ _. inr (o, allows, c.1);
           })
         ]
       ]

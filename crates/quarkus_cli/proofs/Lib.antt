@@ -7,4 +7,5 @@ pub mod Tops
 pub mod Causes
 pub mod OneOutcome
 pub mod OneDump
+pub mod Complete
 pub mod Printed

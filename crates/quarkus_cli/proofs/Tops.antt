@@ -9,10 +9,10 @@ use Rattle.command_words.specs.declared.command.Command.TheVariants.{Plan, Build
 use Rattle.command_words.specs.declared.command.WordsErr.{WordsErr}
 use Rattle.command_words.specs.declared.command.WordsErr.TheVariants.{Refused, Memory}
 use Rattle.command_words.specs.Words.{command_of}
-use Rattle.quarkus_cli.specs.Outcomes.{FirstPart, OutcomeBy, FirstPartBy, WordsOutcome, WordsFirstPart, nothing, refused}
-use Rattle.quarkus_cli.specs.Answers.{Outside, outside, Answers, AnswersCommand, AnswersWords}
+use Rattle.quarkus_cli.specs.Outcomes.{CommandOutcome, FirstPart, Told, OutcomeBy, FirstPartBy, nothing, refused}
+use Rattle.quarkus_cli.specs.Answers.{Outside, outside, Later, Answers, AnswersCommand, AnswersWords}
 use Rattle.quarkus_cli.specs.Ends.{Delivers}
-use Rattle.quarkus_cli.proofs.Ends.{told_nothing, no_memory, delivered_at, nothing_done}
+use Rattle.quarkus_cli.proofs.Ends.{no_memory, delivered_at, nothing_done, not_begun}
 
 abbrev pub ReadWords : List (List ℕ) → Result Command WordsErr → Type 0
 ReadWords said result = (result ≡ Err Memory) ⊎ (result ≡ ok_or (command_of said) Refused)
@@ -32,19 +32,24 @@ pub dispatched : (said : List (List ℕ)) (command : Command) (before now : Outs
 dispatched said command before now status cause a =
     subst (λ o. Answers (OutcomeBy o before.shelf.files) (FirstPartBy o before.shelf.files) before now status) (sym (command_by (command_of said) command cause)) a
 
-first_nothing : (command : Command) (m : Files) → FirstPart command m nothing
-first_nothing (Plan file) m = refl
-first_nothing (Build file out workers) m = refl
-first_nothing (Dump file) m = refl
+first_nothing : (command : Command) (files : Option Files) → FirstPart command files nothing
+first_nothing (Plan file) files = refl
+first_nothing (Build file out workers) files = refl
+first_nothing (Dump file) files = refl
 
-words_nothing : (o : Option Command) (files : Option Files) → FirstPartBy o files nothing
-words_nothing None files = refl
-words_nothing (Some command) files = told_nothing (FirstPart command) files (first_nothing command)
+same_counts : (shelf : Shelved) (sink : Taken) → Later (outside shelf sink) (outside shelf sink)
+same_counts shelf sink = record { reads = omega arith; writes = omega arith; puts = omega arith }
+
+memory_by : (o : Option Command) (shelf : Shelved) (sink : Taken)
+    → Answers (OutcomeBy o shelf.files) (FirstPartBy o shelf.files) (outside shelf sink) (outside shelf sink) 8
+memory_by None shelf sink =
+    no_memory (OutcomeBy None shelf.files) (FirstPartBy None shelf.files) _ _ (same_counts shelf sink) (inr (refused, refl, not_begun refused shelf sink))
+memory_by (Some command) shelf sink =
+    no_memory (Told (CommandOutcome command) shelf.files) (FirstPart command shelf.files) _ _ (same_counts shelf sink)
+    (inl (nothing, first_nothing command shelf.files, nothing_done shelf shelf sink refl))
 
 pub words_memory : (said : List (List ℕ)) (shelf : Shelved) (sink : Taken) → AnswersWords said (outside shelf sink) (outside shelf sink) 8
-words_memory said shelf sink =
-    no_memory (WordsOutcome said shelf.files) (WordsFirstPart said shelf.files) _ _ (record { reads = omega arith; writes = omega arith; puts = omega arith })
-    nothing (words_nothing (command_of said) shelf.files) (nothing_done shelf shelf sink refl)
+words_memory said shelf sink = memory_by (command_of said) shelf sink
 
 pub words_refused : (said : List (List ℕ)) (fault : WordsErr) (before now : Outside) (status : ℕ) → ReadWords said (Err fault) → fault ≡ Refused
     → Delivers refused before now status → AnswersWords said before now status

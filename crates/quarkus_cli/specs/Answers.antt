@@ -1,5 +1,5 @@
 -- What a status says of the shelf and the sink, for the outcomes that the words and the files allow. This project's own.
-use Rattle.std.specs.Prelude.{◌≡◌, ℕ, ◌≤◌, ◌⊎◌, List, ◌∷◌, ◌++◌, Option, option_map, IsSome}
+use Rattle.std.specs.Prelude.{◌≡◌, ◌≢◌, ℕ, ◌≤◌, ◌⊎◌, List, ◌∷◌, ◌++◌, Option, option_map, IsSome}
 use Rattle.aug_base.specs.Causes.{Rose}
 use Rattle.aug_base.specs.Files.{Files, File, with_file, with_files, Begins}
 use Rattle.aug_base.specs.Shelves.{Shelved}
@@ -41,10 +41,20 @@ WrittenInPart files before now =
     ⊎ ((next : File) × (more : List File) × (front : List ℕ) × (rest ≡ next ∷ more) × Begins front next.1
     × (now ≡ option_map (λ m. with_file (next.0, front) (with_files first m)) before)))
 
--- a first part of the outcome is done
-pub record DoneInPart (o : Outcome) (before now : Outside) : Type 0 where
+-- some of the outcome's files are written, and nothing is put
+pub record FilesInPart (o : Outcome) (before now : Outside) : Type 0 where
   pub files : WrittenInPart o.files before.shelf.files now.shelf.files
+  pub text : now.sink.bytes ≡ before.sink.bytes
+
+-- each write succeeded, so all of the outcome's files are written, and some of its text is put
+pub record TextInPart (o : Outcome) (before now : Outside) : Type 0 where
+  pub writes : now.shelf.write_faults ≡ before.shelf.write_faults
+  pub files : now.shelf.files ≡ option_map (with_files o.files) before.shelf.files
   pub text : GrowsBySome o.text before.sink.bytes now.sink.bytes
+
+-- a first part of the outcome is done: the text is put last
+abbrev pub DoneInPart : Outcome → Outside → Outside → Type 0
+DoneInPart o before now = FilesInPart o before now ⊎ TextInPart o before now
 
 -- the statuses of a command that came to its end
 abbrev pub IsFinal : ℕ → Type 0
@@ -60,13 +70,15 @@ pub record Answers (Allows Stops : Outcome → Type 0) (before now : Outside) (s
   -- a name that is read isn't on a shelf that tells its map, or a read failed
   pub missing : status ≡ 6 → (IsSome before.shelf.files × ((o : Outcome) × Allows o × (o.status ≡ 6))) ⊎ Rose before.shelf.read_faults now.shelf.read_faults
   pub missing_leaves : status ≡ 6 → (o : Outcome) × Stops o × Done o before now
-  -- a write or a put failed
+  -- a write or a put failed, of an outcome for which every name that is read was there
   pub failed : status ≡ 7 → Rose before.shelf.write_faults now.shelf.write_faults ⊎ Rose before.sink.faults now.sink.faults
-  pub stopped : (status ≡ 7) ⊎ (status ≡ 8) → ((o : Outcome) × Stops o × Done o before now) ⊎ ((o : Outcome) × Allows o × DoneInPart o before now)
+  pub failed_leaves : status ≡ 7 → (o : Outcome) × Allows o × (o.status ≢ 6) × DoneInPart o before now
+  -- memory ran out, before the outcome was known or when it was written and put
+  pub spent_leaves : status ≡ 8 → ((o : Outcome) × Stops o × Done o before now) ⊎ ((o : Outcome) × Allows o × DoneInPart o before now)
 
 -- the answer of a command
 abbrev pub AnswersCommand : Command → Outside → Outside → ℕ → Type 0
-AnswersCommand command before now status = Answers (Told (CommandOutcome command) before.shelf.files) (Told (FirstPart command) before.shelf.files) before now status
+AnswersCommand command before now status = Answers (Told (CommandOutcome command) before.shelf.files) (FirstPart command before.shelf.files) before now status
 
 -- the answer of a command line
 abbrev pub AnswersWords : List (List ℕ) → Outside → Outside → ℕ → Type 0

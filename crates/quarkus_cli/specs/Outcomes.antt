@@ -92,11 +92,11 @@ CommandOutcome (Plan file) m o = OfFile (OfChain OfPlan) (m file) o
 CommandOutcome (Build file out workers) m o = OfFile (OfChain (OfBuild out workers)) (m file) o
 CommandOutcome (Dump file) m o = OfDump file (m file) o
 
--- what is done where a read stops the command: one line for each command
-abbrev pub FirstPart : Command → Files → Outcome → Type 0
-FirstPart (Plan file) m o = o ≡ nothing
-FirstPart (Build file out workers) m o = o ≡ nothing
-FirstPart (Dump file) m o = o ≡ nothing
+-- what is done where a read stops the command, whether its shelf tells its files or not: one line for each command
+abbrev pub FirstPart : Command → Option Files → Outcome → Type 0
+FirstPart (Plan file) files o = o ≡ nothing
+FirstPart (Build file out workers) files o = o ≡ nothing
+FirstPart (Dump file) files o = o ≡ nothing
 
 -- a relation to the files, over what a shelf tells; of files that aren't told nothing is said
 abbrev pub Told : (Files → Outcome → Type 0) → Option Files → Outcome → Type 0
@@ -106,9 +106,10 @@ abbrev pub OutcomeBy : Option Command → Option Files → Outcome → Type 0
 OutcomeBy None files o = o ≡ refused
 OutcomeBy (Some command) files o = Told (CommandOutcome command) files o
 
+-- words of no form read nothing, so that no read stops them
 abbrev pub FirstPartBy : Option Command → Option Files → Outcome → Type 0
-FirstPartBy None files o = o ≡ nothing
-FirstPartBy (Some command) files o = Told (FirstPart command) files o
+FirstPartBy None files o = ⊥
+FirstPartBy (Some command) files o = FirstPart command files o
 
 -- the outcomes of a command line
 abbrev pub WordsOutcome : List (List ℕ) → Option Files → Outcome → Type 0

@@ -69,6 +69,41 @@ pub fn an_accepted_project_is_built()
     no_fault_is_accepted();
 }
 
+/// A law: where nothing outside failed and the file holds a project whose chain is accepted,
+/// `plan` answers 0 or want of memory. It does nothing.
+pub fn an_accepted_project_is_planned()
+    ensures { (file : List ℕ) (before now : Outside) (status : ℕ) (m : Files) (p : Project) → AnswersCommand (Command.Plan file) before now status → CanCount before → Quiet before now → before.shelf.files ≡ Some m → HoldsProject (m file) p → IsAcceptedProject p → (status ≡ 0) ⊎ (status ≡ 8) }
+{
+    no_fault_is_accepted();
+}
+
+/// A law: where nothing outside failed and the file's bytes, at most 2,000,000, spell a class,
+/// `dump` answers 0 or want of memory. It does nothing.
+pub fn a_class_file_is_dumped()
+    ensures { (file bytes : List ℕ) (before now : Outside) (status : ℕ) (m : Files) (c : Class) → AnswersCommand (Command.Dump file) before now status → CanCount before → Quiet before now → before.shelf.files ≡ Some m → m file ≡ Some bytes → IsBytes bytes → length bytes ≤ 2000000 → Spells bytes c → (status ≡ 0) ⊎ (status ≡ 8) }
+{
+    one_reading();
+}
+
+/// A law: where a shelf that tells its files lacks the file, the answer is that it isn't there, or
+/// want of memory, whatever else fails. It does nothing.
+pub fn a_missing_file_is_told()
+    ensures plan { (file : List ℕ) (before now : Outside) (status : ℕ) (m : Files) → AnswersCommand (Command.Plan file) before now status → before.shelf.files ≡ Some m → m file ≡ None → (status ≡ 6) ⊎ (status ≡ 8) }
+    ensures build { (file out : List ℕ) (workers : ℕ) (before now : Outside) (status : ℕ) (m : Files) → AnswersCommand (Command.Build file out workers) before now status → before.shelf.files ≡ Some m → m file ≡ None → (status ≡ 6) ⊎ (status ≡ 8) }
+    ensures dump { (file : List ℕ) (before now : Outside) (status : ℕ) (m : Files) → AnswersCommand (Command.Dump file) before now status → before.shelf.files ≡ Some m → m file ≡ None → (status ≡ 6) ⊎ (status ≡ 8) }
+{}
+
+/// A law: words of no form are answered by the usage line, or by what became of its put; no read is
+/// answered for. It does nothing.
+pub fn words_of_no_form_read_nothing()
+    ensures { (words : List (List ℕ)) (before now : Outside) (status : ℕ) → AnswersWords words before now status → command_of words ≡ None → (status ≡ 1) ⊎ ((status ≡ 7) ⊎ (status ≡ 8)) }
+{}
+
+/// A law: where a write failed, no byte has reached the sink. It does nothing.
+pub fn a_text_is_put_last()
+    ensures { (words : List (List ℕ)) (before now : Outside) (status : ℕ) → AnswersWords words before now status → (now.shelf.write_faults ≡ before.shelf.write_faults → ⊥) → now.sink.bytes ≡ before.sink.bytes }
+{}
+
 /// A law: over given files `plan` has at most one outcome. It does nothing.
 pub fn plan_has_one_outcome()
     ensures { (file : List ℕ) (m : Files) (o other : Outcome) → CommandOutcome (Command.Plan file) m o → CommandOutcome (Command.Plan file) m other → o ≡ other }

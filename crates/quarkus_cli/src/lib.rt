@@ -22,9 +22,10 @@ pub use build::{build_one, build_together};
 pub use command_words::{Command, WordsErr, read_words};
 pub use dump::dump_call;
 pub use laws::{
-    a_build_tells_its_history, a_class_file_has_one_dump, a_status_tells_its_cause,
-    an_accepted_project_is_built, an_outcome_is_answered, one_worker_has_one_outcome,
-    plan_has_one_outcome,
+    a_build_tells_its_history, a_class_file_has_one_dump, a_class_file_is_dumped,
+    a_missing_file_is_told, a_status_tells_its_cause, a_text_is_put_last,
+    an_accepted_project_is_built, an_accepted_project_is_planned, an_outcome_is_answered,
+    one_worker_has_one_outcome, plan_has_one_outcome, words_of_no_form_read_nothing,
 };
 pub use outcome::Outcome;
 pub use plan::plan_call;

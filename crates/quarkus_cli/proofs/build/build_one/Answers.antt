@@ -2,8 +2,8 @@ use Rattle.std.proofs.Common.{refl, subst}
 use Rattle.command_words.specs.declared.command.Command.TheVariants.{Build}
 use Rattle.ext_parser.specs.ProjectOfTheBytes.{project}
 use Rattle.quarkus_cli.specs.Builds.{OfBuild}
-use Rattle.quarkus_cli.specs.Outcomes.{CommandOutcome, FirstPart, OfRead, OfChain}
-use Rattle.quarkus_cli.proofs.Ends.{told_absent, told_nothing, stopped_read, read_memory, read_delivered}
+use Rattle.quarkus_cli.specs.Outcomes.{CommandOutcome, OfRead, OfChain}
+use Rattle.quarkus_cli.proofs.Ends.{told_absent, stopped_read, read_memory, read_delivered}
 use Rattle.quarkus_cli.proofs.Projects.{build_ends, project_allows}
 use Rattle.quarkus_cli.proofs.build.build_one.Goals as goal
 
@@ -11,7 +11,7 @@ pub returns-in-Err : goal.returns-in-Err
 returns-in-Err g c =
     let command = Build c.args.file.now c.args.out.now 1 in
     record {
-      answers = stopped_read _ _ c.args.file.now _ _ _ c.in-Err.status (told_nothing (FirstPart command) _ (λ m. refl))
+      answers = stopped_read _ _ c.args.file.now _ _ _ c.in-Err.status refl
           (told_absent (CommandOutcome command) c.args.file.now _ (λ m none. rw none refl)) c.in-Err.ensures.err;
     }
 
@@ -29,6 +29,5 @@ returns-in-Ok-one_outcome g c =
 pub returns : goal.returns
 returns g c =
     record {
-      answers = read_memory _ _ c.args.file.now c.in-Ok.bytes _ _ _ _ c.in-Ok.ensures.ok
-          (told_nothing (FirstPart (Build c.args.file.now c.args.out.now 1)) _ (λ m. refl));
+      answers = read_memory _ _ c.args.file.now c.in-Ok.bytes _ _ _ _ c.in-Ok.ensures.ok refl;
     }

@@ -1,14 +1,14 @@
 use Rattle.std.proofs.Common.{refl, subst}
 use Rattle.command_words.specs.declared.command.Command.TheVariants.{Dump}
-use Rattle.quarkus_cli.specs.Outcomes.{CommandOutcome, FirstPart, OfClassFile}
-use Rattle.quarkus_cli.proofs.Ends.{told_absent, told_nothing, stopped_read, read_memory, read_delivered}
+use Rattle.quarkus_cli.specs.Outcomes.{CommandOutcome, OfClassFile}
+use Rattle.quarkus_cli.proofs.Ends.{told_absent, stopped_read, read_memory, read_delivered}
 use Rattle.quarkus_cli.proofs.Dumps.{dump_allows}
 use Rattle.quarkus_cli.proofs.dump.dump_call.Goals as goal
 
 pub returns-in-Err : goal.returns-in-Err
 returns-in-Err g c =
     record {
-      answers = stopped_read _ _ c.args.file.now _ _ _ c.in-Err.status (told_nothing (FirstPart (Dump c.args.file.now)) _ (λ m. refl))
+      answers = stopped_read _ _ c.args.file.now _ _ _ c.in-Err.status refl
           (told_absent (CommandOutcome (Dump c.args.file.now)) c.args.file.now _ (λ m none. rw none refl)) c.in-Err.ensures.err;
     }
 
@@ -25,5 +25,5 @@ returns-in-Ok-dump_outcome g c =
 pub returns : goal.returns
 returns g c =
     record {
-      answers = read_memory _ _ c.args.file.now c.in-Ok.bytes _ _ _ _ c.in-Ok.ensures.ok (told_nothing (FirstPart (Dump c.args.file.now)) _ (λ m. refl));
+      answers = read_memory _ _ c.args.file.now c.in-Ok.bytes _ _ _ _ c.in-Ok.ensures.ok refl;
     }

@@ -1,4 +1,4 @@
-use Rattle.quarkus_cli.proofs.Causes.{accepted_built}
+use Rattle.quarkus_cli.proofs.Complete.{accepted_built}
 use Rattle.quarkus_cli.proofs.laws.an_accepted_project_is_built.Goals as goal
 
 pub returns : goal.returns

@@ -1,15 +1,15 @@
 use Rattle.std.proofs.Common.{refl, subst}
 use Rattle.command_words.specs.declared.command.Command.TheVariants.{Plan}
 use Rattle.ext_parser.specs.ProjectOfTheBytes.{project}
-use Rattle.quarkus_cli.specs.Outcomes.{CommandOutcome, FirstPart, OfRead, OfChain, OfPlan}
-use Rattle.quarkus_cli.proofs.Ends.{told_absent, told_nothing, stopped_read, read_memory, read_delivered}
+use Rattle.quarkus_cli.specs.Outcomes.{CommandOutcome, OfRead, OfChain, OfPlan}
+use Rattle.quarkus_cli.proofs.Ends.{told_absent, stopped_read, read_memory, read_delivered}
 use Rattle.quarkus_cli.proofs.Projects.{plan_ends, project_allows}
 use Rattle.quarkus_cli.proofs.plan.plan_call.Goals as goal
 
 pub returns-in-Err : goal.returns-in-Err
 returns-in-Err g c =
     record {
-      answers = stopped_read _ _ c.args.file.now _ _ _ c.in-Err.status (told_nothing (FirstPart (Plan c.args.file.now)) _ (λ m. refl))
+      answers = stopped_read _ _ c.args.file.now _ _ _ c.in-Err.status refl
           (told_absent (CommandOutcome (Plan c.args.file.now)) c.args.file.now _ (λ m none. rw none refl)) c.in-Err.ensures.err;
     }
 
@@ -26,5 +26,5 @@ returns-in-Ok-plan_outcome g c =
 pub returns : goal.returns
 returns g c =
     record {
-      answers = read_memory _ _ c.args.file.now c.in-Ok.bytes _ _ _ _ c.in-Ok.ensures.ok (told_nothing (FirstPart (Plan c.args.file.now)) _ (λ m. refl));
+      answers = read_memory _ _ c.args.file.now c.in-Ok.bytes _ _ _ _ c.in-Ok.ensures.ok refl;
     }
