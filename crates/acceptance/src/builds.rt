@@ -14,16 +14,16 @@ struct Built {
 /// A file, so many workers, and what comes of it.
 static BUILDS: [Built; 11] = [
     Built {
-        file: "format = 1\napp = \"row1\"\n",
+        file: "format = 1\napp = \"bare\"\n",
         status: 0,
         history: "",
-        last: "built row1: steps 0, puts 0, calls 0\n",
+        last: "built bare: steps 0, puts 0, calls 0\n",
     },
     // An overridden production is left out.
     Built {
         file: r#"
 format = 1
-app = "row5"
+app = "overridden"
 finals = ["Done"]
 extensions = [{name = "a", items = [{name = "Conf", kind = "simple"},
   {name = "Extra", kind = "simple"}, {name = "Done", kind = "empty"}], steps = [
@@ -33,13 +33,13 @@ extensions = [{name = "a", items = [{name = "Conf", kind = "simple"},
 "#,
         status: 0,
         history: "start a.dflt\nput a.dflt Extra 2\nend a.dflt 0\nstart a.user\nput a.user Conf 3\nend a.user 0\nstart a.use\ntake a.use Conf (3)\ntake a.use Extra (2)\nend a.use 0\n",
-        last: "built row5: steps 3, puts 2, calls 0\n",
+        last: "built overridden: steps 3, puts 2, calls 0\n",
     },
     // An override that isn't active overrides nothing.
     Built {
         file: r#"
 format = 1
-app = "row35"
+app = "inactive_override"
 config = {mine = false}
 finals = ["Done"]
 extensions = [{name = "a", items = [{name = "Conf", kind = "simple"},
@@ -50,25 +50,25 @@ extensions = [{name = "a", items = [{name = "Conf", kind = "simple"},
 "#,
         status: 0,
         history: "start a.dflt\nput a.dflt Conf 1\nput a.dflt Extra 2\nend a.dflt 0\nstart a.use\ntake a.use Conf (1)\ntake a.use Extra (2)\nend a.use 0\n",
-        last: "built row35: steps 2, puts 2, calls 0\n",
+        last: "built inactive_override: steps 2, puts 2, calls 0\n",
     },
     // An item without a producer is read as null, and a producer comes before its consumer.
     Built {
         file: r#"
 format = 1
-app = "row7"
+app = "optional"
 finals = ["V"]
 extensions = [{name = "a", items = [{name = "T", kind = "simple"}, {name = "V", kind = "simple"}], steps = [
   {name = "c", consumes = ["T optional"], produces = ["V"], body = 'produce V(get T);'}]}]
 "#,
         status: 0,
         history: "start a.c\ntake a.c T ()\nput a.c V null\nend a.c 0\n",
-        last: "built row7: steps 1, puts 1, calls 0\n",
+        last: "built optional: steps 1, puts 1, calls 0\n",
     },
     Built {
         file: r#"
 format = 1
-app = "row7"
+app = "optional"
 finals = ["V"]
 extensions = [{name = "a", items = [{name = "T", kind = "simple"}, {name = "V", kind = "simple"}], steps = [
   {name = "c", consumes = ["T optional"], produces = ["V"], body = 'produce V(get T);'},
@@ -76,25 +76,25 @@ extensions = [{name = "a", items = [{name = "T", kind = "simple"}, {name = "V", 
 "#,
         status: 0,
         history: "start a.p\nput a.p T 5\nend a.p 0\nstart a.c\ntake a.c T (5)\nput a.c V 5\nend a.c 0\n",
-        last: "built row7: steps 2, puts 2, calls 0\n",
+        last: "built optional: steps 2, puts 2, calls 0\n",
     },
     Built {
         file: r#"
 format = 1
-app = "row9"
+app = "multi"
 finals = ["V"]
 extensions = [{name = "a", items = [{name = "M", kind = "multi"}, {name = "V", kind = "simple"}], steps = [
   {name = "c", consumes = ["M"], produces = ["V"], body = 'produce V(len all M);'}]}]
 "#,
         status: 0,
         history: "start a.c\ntake a.c M ()\nput a.c V 0\nend a.c 0\n",
-        last: "built row9: steps 1, puts 1, calls 0\n",
+        last: "built multi: steps 1, puts 1, calls 0\n",
     },
     // An ordered item is sorted by its key; equal keys stay in order.
     Built {
         file: r#"
 format = 1
-app = "row10"
+app = "ordered"
 finals = ["Done"]
 extensions = [{name = "a", items = [{name = "O", kind = "ordered", key = "k"}, {name = "Done", kind = "empty"}],
   beans = [{name = "B", fields = ["k", "n"]}], steps = [
@@ -108,13 +108,13 @@ produce O(new B{k: 0, n: 4});
 "#,
         status: 0,
         history: "start a.p\nput a.p O B#0.0{k: 9223372036854775807, n: 1}\nput a.p O B#0.1{k: -9223372036854775808, n: 2}\nput a.p O B#0.2{k: 0, n: 3}\nput a.p O B#0.3{k: 0, n: 4}\nend a.p 0\nstart a.c\ntake a.c O (B#0.1{k: -9223372036854775808, n: 2}, B#0.2{k: 0, n: 3}, B#0.3{k: 0, n: 4}, B#0.0{k: 9223372036854775807, n: 1})\nend a.c 0\n",
-        last: "built row10: steps 2, puts 4, calls 0\n",
+        last: "built ordered: steps 2, puts 4, calls 0\n",
     },
     // A step that fails ends the run.
     Built {
         file: r#"
 format = 1
-app = "row12"
+app = "failing"
 finals = ["Done"]
 extensions = [{name = "a", items = [{name = "M", kind = "multi"}, {name = "Done", kind = "empty"}], steps = [
   {name = "x", produces = ["M"], body = 'produce M("a"); produce M("c");'},
@@ -128,7 +128,7 @@ extensions = [{name = "a", items = [{name = "M", kind = "multi"}, {name = "Done"
     Built {
         file: r#"
 format = 1
-app = "row13"
+app = "phases"
 finals = ["Done"]
 extensions = [{name = "a", items = [{name = "P", kind = "simple"}, {name = "Done", kind = "empty"}],
   recorders = [{name = "R", methods = [{name = "make"}, {name = "use_it", params = ["x"]}]}], steps = [
@@ -142,7 +142,7 @@ extensions = [{name = "a", items = [{name = "P", kind = "simple"}, {name = "Done
     Built {
         file: r#"
 format = 1
-app = "row28"
+app = "handing_on"
 finals = ["M"]
 extensions = [{name = "a", items = [{name = "T", kind = "simple"}, {name = "M", kind = "multi"}], steps = [
   {name = "p", produces = ["T"], body = 'produce T(7);'},
@@ -150,7 +150,7 @@ extensions = [{name = "a", items = [{name = "T", kind = "simple"}, {name = "M", 
 "#,
         status: 0,
         history: "start a.p\nput a.p T 7\nend a.p 0\nstart a.q\ntake a.q T (7)\nput a.q M \"x\"\nput a.q M null\nend a.q 0\n",
-        last: "built row28: steps 2, puts 3, calls 0\n",
+        last: "built handing_on: steps 2, puts 3, calls 0\n",
     },
     Built {
         file: r#"
@@ -226,7 +226,7 @@ fn words_of_a_build_have_their_forms(rt: HostRuntime) -> Result<(), Memory> {
 fn many_calls(alloc: Global, more: &str) -> Result<String, Memory> {
     let mut file = String::new(alloc);
     file.push_str(
-        "format = 1\napp = \"row37\"\nfinals = [\"Done\"]\nextensions = [{name = \"a\", items = [{name = \"Done\", kind = \"empty\"}], recorders = [{name = \"R\", methods = [{name = \"m\"}]}], steps = [{name = \"s\", produces = [\"Done\"], record = \"static\", body = 'let y = [null",
+        "format = 1\napp = \"many_calls\"\nfinals = [\"Done\"]\nextensions = [{name = \"a\", items = [{name = \"Done\", kind = \"empty\"}], recorders = [{name = \"R\", methods = [{name = \"m\"}]}], steps = [{name = \"s\", produces = [\"Done\"], record = \"static\", body = 'let y = [null",
     )?;
     for _ in 1..64 {
         file.push_str(", null")?;
@@ -244,7 +244,7 @@ fn many_calls(alloc: Global, more: &str) -> Result<String, Memory> {
 #[test]
 fn a_step_records_8192_calls_and_no_more(rt: HostRuntime) -> Result<(), Memory> {
     let cases = [
-        ("", 0, "built row37: steps 1, puts 0, calls 8192\n"),
+        ("", 0, "built many_calls: steps 1, puts 0, calls 8192\n"),
         (" call R.m();", 4, "step failed: a.s: too many recorded\n"),
     ];
     for (more, status, last) in cases {

@@ -1,7 +1,7 @@
 use crate::run::run_well;
 use item_types::Memory;
 
-const EMPTY: &str = "format = 1\napp = \"row1\"\n";
+const EMPTY: &str = "format = 1\napp = \"bare\"\n";
 
 const DEMO: &str = r#"
 format = 1
@@ -13,14 +13,14 @@ extensions = [{name = "core", items = [{name = "Ready", kind = "empty"}], steps 
 
 const TWO_PRODUCERS: &str = r#"
 format = 1
-app = "row4"
+app = "two_producers"
 extensions = [{name = "a", items = [{name = "Conf", kind = "simple"}], steps = [
   {name = "one", produces = ["Conf"]}, {name = "two", produces = ["Conf"]}]}]
 "#;
 
 const OVERRIDABLE: &str = r#"
 format = 1
-app = "row5"
+app = "overridden"
 finals = ["Done"]
 extensions = [{name = "a", items = [{name = "Conf", kind = "simple"},
   {name = "Extra", kind = "simple"}, {name = "Done", kind = "empty"}], steps = [
@@ -31,7 +31,7 @@ extensions = [{name = "a", items = [{name = "Conf", kind = "simple"},
 
 const WEAK: &str = r#"
 format = 1
-app = "row6"
+app = "weak"
 finals = ["Done"]
 extensions = [{name = "a", items = [{name = "T", kind = "simple"},
   {name = "U", kind = "simple"}, {name = "Done", kind = "empty"}], steps = [
@@ -40,7 +40,7 @@ extensions = [{name = "a", items = [{name = "T", kind = "simple"},
 
 const WEAK_AND_WANTED: &str = r#"
 format = 1
-app = "row6"
+app = "weak"
 finals = ["Done", "U"]
 extensions = [{name = "a", items = [{name = "T", kind = "simple"},
   {name = "U", kind = "simple"}, {name = "Done", kind = "empty"}], steps = [
@@ -49,14 +49,14 @@ extensions = [{name = "a", items = [{name = "T", kind = "simple"},
 
 const OWN_PRODUCT: &str = r#"
 format = 1
-app = "row8"
+app = "own_product"
 extensions = [{name = "a", items = [{name = "T", kind = "simple"}], steps = [
   {name = "s", consumes = ["T"], produces = ["T"]}]}]
 "#;
 
 const OWN_PRODUCT_WANTED: &str = r#"
 format = 1
-app = "row8"
+app = "own_product"
 finals = ["T"]
 extensions = [{name = "a", items = [{name = "T", kind = "simple"}], steps = [
   {name = "s", consumes = ["T"], produces = ["T"]}]}]
@@ -64,7 +64,7 @@ extensions = [{name = "a", items = [{name = "T", kind = "simple"}], steps = [
 
 const CYCLE: &str = r#"
 format = 1
-app = "row23"
+app = "cycle"
 finals = ["U"]
 extensions = [{name = "a", items = [{name = "U", kind = "simple"}, {name = "V", kind = "simple"}], steps = [
   {name = "x", consumes = ["V"], produces = ["U"]}, {name = "y", consumes = ["U"], produces = ["V"]}]}]
@@ -82,7 +82,7 @@ items = [{name = "Ready", kind = "empty"}]
 
 /// Projects with what `plan` prints of each.
 const PLANS: [(&str, u8, &str); 10] = [
-    (EMPTY, 0, "planned row1: steps 0 of 0\n"),
+    (EMPTY, 0, "planned bare: steps 0 of 0\n"),
     (DEMO, 0, "step 0 core.boot\nplanned demo: steps 1 of 1\n"),
     (
         TWO_PRODUCERS,
@@ -92,7 +92,7 @@ const PLANS: [(&str, u8, &str); 10] = [
     (
         OVERRIDABLE,
         0,
-        "step 0 a.dflt\nstep 1 a.user\nstep 2 a.use after 0 1\nplanned row5: steps 3 of 3\n",
+        "step 0 a.dflt\nstep 1 a.user\nstep 2 a.use after 0 1\nplanned overridden: steps 3 of 3\n",
     ),
     (
         WEAK,
@@ -102,9 +102,9 @@ const PLANS: [(&str, u8, &str); 10] = [
     (
         WEAK_AND_WANTED,
         0,
-        "step 0 a.w\nstep 1 a.c after 0\nplanned row6: steps 2 of 2\n",
+        "step 0 a.w\nstep 1 a.c after 0\nplanned weak: steps 2 of 2\n",
     ),
-    (OWN_PRODUCT, 0, "planned row8: steps 0 of 1\n"),
+    (OWN_PRODUCT, 0, "planned own_product: steps 0 of 1\n"),
     (OWN_PRODUCT_WANTED, 3, "chain refused: cycle a.s\n"),
     (CYCLE, 3, "chain refused: cycle a.x, a.y\n"),
     (
