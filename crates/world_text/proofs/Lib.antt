@@ -1,0 +1,4 @@
+pub mod Joining
+pub mod Tabling
+pub mod Texts
+pub mod Within
