@@ -4,3 +4,4 @@ pub mod Bounds
 pub mod RightTexts
 pub mod Kept
 pub mod Settings
+pub mod OneMore

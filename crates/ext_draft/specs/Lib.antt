@@ -1,5 +1,6 @@
 pub mod Names
 pub mod Paths
+pub mod Places
 pub mod Entries
 pub mod Reading
 pub mod Declarations

@@ -6,8 +6,9 @@ ghost use Rattle.ext_draft.specs.Paths.{nth};
 
 use crate::draft::Setting;
 use crate::fault::DraftFault;
-use crate::faults::{too_long, wrong_entry, wrong_entry_name, wrong_path};
+use crate::faults::{too_long, wrong_entry, wrong_entry_name, wrong_field};
 use crate::names::is_name;
+use crate::prefix::Prefix;
 use item_types::{Seq, Text};
 use std::alloc::Global;
 use toml::{Table, Value};
@@ -18,11 +19,11 @@ fn setting_at(alloc: Global, index: usize, key: &str, value: &Value) -> Result<S
     ensures { (result ≡ Err DraftFault.Memory) ⊎ (result ≡ setting_at (nth (codes "config") index) key.now (view value.now)) }
 {
     if !is_name(key) {
-        return wrong_entry_name(alloc, "config", index);
+        return wrong_entry_name(alloc, &Prefix::File, "config", index);
     }
     let on = match value.as_bool() {
         Some(on) => on,
-        None => return wrong_entry(alloc, "config", index),
+        None => return wrong_entry(alloc, &Prefix::File, "config", index),
     };
     let name = Text::of(alloc, key)?;
     Ok(Setting { name, on })
@@ -57,11 +58,11 @@ pub fn config_at(alloc: Global, table: &Table) -> Result<Seq<Setting>, DraftFaul
     };
     let config = match value.as_table() {
         Some(config) => config,
-        None => return wrong_path(alloc, "config"),
+        None => return wrong_field(alloc, &Prefix::File, "config"),
     };
     let found = key_count(config);
     if 1024 < found {
-        return too_long(alloc, "config", found);
+        return too_long(alloc, &Prefix::File, "config", found);
     }
     settings_in(alloc, config)
 }

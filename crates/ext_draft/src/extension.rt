@@ -1,5 +1,6 @@
-ghost use Rattle.std.specs.Prelude.{◌≡◌, ◌⊎◌, Err, IfOk};
+ghost use Rattle.std.specs.Prelude.{◌≡◌, ◌⊎◌, ◌++◌, Err, IfOk};
 ghost use Rattle.toml.specs.View.{items_view, table_view, view};
+ghost use Rattle.ext_draft.specs.Places.{shown};
 ghost use Rattle.ext_draft.specs.FirstWalk.{extension_in, extensions_at, no_sums, sums_with, IsWithin};
 ghost use Rattle.ext_draft.specs.Paths.{nth};
 ghost use Rattle.ext_draft.specs.Reading.{table_entry};
@@ -7,7 +8,7 @@ ghost use Rattle.ext_draft.specs.Reading.{table_entry};
 use crate::draft::{DraftExtension, Sums};
 use crate::fault::DraftFault;
 use crate::faults::wrong_entry;
-use crate::paths::inside_nth;
+use crate::prefix::Prefix;
 use crate::recorder::{recorders_of, with_methods};
 use crate::table::{list_of, name_at, without_others};
 use item_types::Seq;
@@ -19,11 +20,11 @@ use toml::{Table, Value};
 fn extension_in(
     alloc: Global,
     sums: Sums,
-    prefix: &str,
+    prefix: &Prefix<'_>,
     table: &Table,
 ) -> Result<DraftExtension, DraftFault>
     requires { IsWithin sums }
-    ensures { (result ≡ Err DraftFault.Memory) ⊎ (result ≡ extension_in sums prefix.now (table_view table.now)) }
+    ensures { (result ≡ Err DraftFault.Memory) ⊎ (result ≡ extension_in sums (shown prefix.now) (table_view table.now)) }
 {
     let name = name_at(alloc, prefix, table, "name")?;
     let items = list_of(alloc, 2048, sums.items, prefix, table, "items")?;
@@ -49,20 +50,21 @@ fn extension_in(
 fn extension_at(
     alloc: Global,
     sums: Sums,
-    path: &str,
+    prefix: &Prefix<'_>,
+    key: &str,
     index: usize,
     value: &Value,
 ) -> Result<DraftExtension, DraftFault>
     requires { IsWithin sums }
-    ensures answer { (result ≡ Err DraftFault.Memory) ⊎ (result ≡ table_entry (extension_in sums) (nth path.now index) (view value.now)) }
+    ensures answer { (result ≡ Err DraftFault.Memory) ⊎ (result ≡ table_entry (extension_in sums) (nth (shown prefix.now ++ key.now) index) (view value.now)) }
     ensures within { IfOk result (λ e. IsWithin (sums_with sums e)) }
 {
     match value.as_table() {
         Some(table) => {
-            let prefix = inside_nth(alloc, path, index)?;
-            extension_in(alloc, sums, prefix.as_str(), table)
+            let prefix = Prefix::Entry(prefix, key, index);
+            extension_in(alloc, sums, &prefix, table)
         }
-        None => wrong_entry(alloc, path, index),
+        None => wrong_entry(alloc, prefix, key, index),
     }
 }
 
@@ -82,10 +84,11 @@ fn sums_with(sums: Sums, extension: &DraftExtension) -> Sums
 /// All extensions of a list.
 pub fn extensions_at(
     alloc: Global,
-    path: &str,
+    prefix: &Prefix<'_>,
+    key: &str,
     values: &[Value],
 ) -> Result<Seq<DraftExtension>, DraftFault>
-    ensures { (result ≡ Err DraftFault.Memory) ⊎ (result ≡ extensions_at no_sums path.now 0 (items_view values.now)) }
+    ensures { (result ≡ Err DraftFault.Memory) ⊎ (result ≡ extensions_at no_sums (shown prefix.now ++ key.now) 0 (items_view values.now)) }
 {
     let mut found = Seq::new(alloc);
     let mut sums = Sums {
@@ -96,7 +99,7 @@ pub fn extensions_at(
         steps: 0,
     };
     for (index, value) in values.iter().enumerate() {
-        match extension_at(alloc, sums, path, index, value) {
+        match extension_at(alloc, sums, prefix, key, index, value) {
             Ok(extension) => {
                 sums = sums_with(sums, &extension);
                 if found.push(extension).is_err() {

@@ -1,68 +1,77 @@
 ghost use Rattle.std.specs.Prelude.{◌≡◌, ◌⊎◌, ◌++◌, Err};
 ghost use Rattle.ext_draft.specs.Paths.{nth};
+ghost use Rattle.ext_draft.specs.Places.{shown};
 
 use crate::fault::DraftFault;
-use crate::paths::{nth, path_of};
+use crate::paths::{entry_path, key_path};
+use crate::prefix::Prefix;
 use item_types::Text;
 use std::alloc::Global;
 
 /// A wrong field at a table's key.
-pub fn wrong_field<T>(alloc: Global, prefix: &str, key: &str) -> Result<T, DraftFault>
-    ensures { (result ≡ Err DraftFault.Memory) ⊎ (result ≡ Err (DraftFault.Field (prefix.now ++ key.now))) }
+pub fn wrong_field<T>(alloc: Global, prefix: &Prefix<'_>, key: &str) -> Result<T, DraftFault>
+    ensures { (result ≡ Err DraftFault.Memory) ⊎ (result ≡ Err (DraftFault.Field (shown prefix.now ++ key.now))) }
 {
-    match path_of(alloc, prefix, key) {
+    match key_path(alloc, prefix, key) {
         Ok(path) => Err(DraftFault::Field(Text::from_string(path))),
         Err(_) => Err(DraftFault::Memory),
     }
 }
 
 /// A wrong name at a table's key.
-pub fn wrong_name<T>(alloc: Global, prefix: &str, key: &str) -> Result<T, DraftFault>
-    ensures { (result ≡ Err DraftFault.Memory) ⊎ (result ≡ Err (DraftFault.Name (prefix.now ++ key.now))) }
+pub fn wrong_name<T>(alloc: Global, prefix: &Prefix<'_>, key: &str) -> Result<T, DraftFault>
+    ensures { (result ≡ Err DraftFault.Memory) ⊎ (result ≡ Err (DraftFault.Name (shown prefix.now ++ key.now))) }
 {
-    match path_of(alloc, prefix, key) {
+    match key_path(alloc, prefix, key) {
         Ok(path) => Err(DraftFault::Name(Text::from_string(path))),
         Err(_) => Err(DraftFault::Memory),
     }
 }
 
-/// A wrong field at an entry of a list.
-pub fn wrong_entry<T>(alloc: Global, path: &str, index: usize) -> Result<T, DraftFault>
-    ensures { (result ≡ Err DraftFault.Memory) ⊎ (result ≡ Err (DraftFault.Field (nth path.now index))) }
+/// A wrong field at an entry of the list at a key.
+pub fn wrong_entry<T>(
+    alloc: Global,
+    prefix: &Prefix<'_>,
+    key: &str,
+    index: usize,
+) -> Result<T, DraftFault>
+    ensures { (result ≡ Err DraftFault.Memory) ⊎ (result ≡ Err (DraftFault.Field (nth (shown prefix.now ++ key.now) index))) }
 {
-    match nth(alloc, path, index) {
+    match entry_path(alloc, prefix, key, index) {
         Ok(path) => Err(DraftFault::Field(Text::from_string(path))),
         Err(_) => Err(DraftFault::Memory),
     }
 }
 
-/// A wrong name at an entry of a list.
-pub fn wrong_entry_name<T>(alloc: Global, path: &str, index: usize) -> Result<T, DraftFault>
-    ensures { (result ≡ Err DraftFault.Memory) ⊎ (result ≡ Err (DraftFault.Name (nth path.now index))) }
+/// A wrong name at an entry of the list at a key.
+pub fn wrong_entry_name<T>(
+    alloc: Global,
+    prefix: &Prefix<'_>,
+    key: &str,
+    index: usize,
+) -> Result<T, DraftFault>
+    ensures { (result ≡ Err DraftFault.Memory) ⊎ (result ≡ Err (DraftFault.Name (nth (shown prefix.now ++ key.now) index))) }
 {
-    match nth(alloc, path, index) {
+    match entry_path(alloc, prefix, key, index) {
         Ok(path) => Err(DraftFault::Name(Text::from_string(path))),
         Err(_) => Err(DraftFault::Memory),
     }
 }
 
-/// A wrong field at that path.
-pub fn wrong_path<T>(alloc: Global, path: &str) -> Result<T, DraftFault>
-    ensures { (result ≡ Err DraftFault.Memory) ⊎ (result ≡ Err (DraftFault.Field path.now)) }
+/// The list or the text at a key is too long.
+pub fn too_long<T>(
+    alloc: Global,
+    prefix: &Prefix<'_>,
+    key: &str,
+    found: usize,
+) -> Result<T, DraftFault>
+    ensures { (result ≡ Err DraftFault.Memory) ⊎ (result ≡ Err (DraftFault.Limit (shown prefix.now ++ key.now) found)) }
 {
-    match Text::of(alloc, path) {
-        Ok(path) => Err(DraftFault::Field(path)),
+    match key_path(alloc, prefix, key) {
+        Ok(path) => Err(DraftFault::Limit {
+            path: Text::from_string(path),
+            found: found as u64,
+        }),
         Err(_) => Err(DraftFault::Memory),
     }
-}
-
-/// A list or a text at that path is too long.
-pub fn too_long<T>(alloc: Global, path: &str, found: usize) -> Result<T, DraftFault>
-    ensures { (result ≡ Err DraftFault.Memory) ⊎ (result ≡ Err (DraftFault.Limit path.now found)) }
-{
-    let path = Text::of(alloc, path)?;
-    Err(DraftFault::Limit {
-        path,
-        found: found as u64,
-    })
 }

@@ -9,6 +9,7 @@ use crate::draft::{Draft, DraftExtension, Format};
 use crate::extension::extensions_at;
 use crate::fault::DraftFault;
 use crate::faults::wrong_field;
+use crate::prefix::Prefix;
 use crate::table::{list_at, list_of, name_at, without_others};
 use item_types::Seq;
 use std::alloc::Global;
@@ -37,7 +38,7 @@ fn format_in(alloc: Global, table: &Table) -> Result<Format, DraftFault>
 {
     match format_of(table) {
         Some(format) => Ok(format),
-        None => wrong_field(alloc, "", "format"),
+        None => wrong_field(alloc, &Prefix::File, "format"),
     }
 }
 
@@ -65,7 +66,7 @@ fn major_of(alloc: Global, format: Format, table: &Table) -> Result<u16, DraftFa
         Format::One => Ok(61),
         Format::Two => match java_major(table) {
             Some(major) => Ok(major),
-            None => wrong_field(alloc, "", "java"),
+            None => wrong_field(alloc, &Prefix::File, "java"),
         },
     }
 }
@@ -73,8 +74,8 @@ fn major_of(alloc: Global, format: Format, table: &Table) -> Result<u16, DraftFa
 fn extensions_of(alloc: Global, table: &Table) -> Result<Seq<DraftExtension>, DraftFault>
     ensures { (result ≡ Err DraftFault.Memory) ⊎ (result ≡ extensions_of (table_view table.now)) }
 {
-    match list_at(alloc, 256, 0, "extensions", table, "extensions") {
-        Ok(values) => extensions_at(alloc, "extensions", values),
+    match list_at(alloc, 256, 0, &Prefix::File, table, "extensions") {
+        Ok(values) => extensions_at(alloc, &Prefix::File, "extensions", values),
         Err(fault) => Err(fault),
     }
 }
@@ -92,14 +93,14 @@ fn file_without_others(
         Format::One => without_others(
             alloc,
             &["format", "app", "config", "finals", "extensions"],
-            "",
+            &Prefix::File,
             table,
             draft,
         ),
         Format::Two => without_others(
             alloc,
             &["format", "app", "java", "config", "finals", "extensions"],
-            "",
+            &Prefix::File,
             table,
             draft,
         ),
@@ -111,10 +112,10 @@ pub fn file(alloc: Global, table: &Table) -> Result<Draft, DraftFault>
     ensures { (result ≡ Err DraftFault.Memory) ⊎ (result ≡ file (table_view table.now)) }
 {
     let format = format_in(alloc, table)?;
-    let app = name_at(alloc, "", table, "app")?;
+    let app = name_at(alloc, &Prefix::File, table, "app")?;
     let major = major_of(alloc, format, table)?;
     let config = config_at(alloc, table)?;
-    let finals = list_of(alloc, 2048, 0, "", table, "finals")?;
+    let finals = list_of(alloc, 2048, 0, &Prefix::File, table, "finals")?;
     let extensions = extensions_of(alloc, table)?;
     let draft = Draft {
         app,

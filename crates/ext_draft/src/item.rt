@@ -1,12 +1,13 @@
 ghost use Rattle.std.specs.Prelude.{◌≡◌, ◌⊎◌, ◌++◌, Err, codes};
 ghost use Rattle.toml.specs.Data.{get_member};
 ghost use Rattle.toml.specs.View.{table_view};
+ghost use Rattle.ext_draft.specs.Places.{shown};
 ghost use Rattle.ext_draft.specs.Declarations.{item_in, key_refused, kind_of};
 
 use crate::entry::Entry;
 use crate::fault::DraftFault;
 use crate::faults::{wrong_entry, wrong_field};
-use crate::paths::inside_nth;
+use crate::prefix::Prefix;
 use crate::table::{name_at, without_others};
 use item_types::{ItemDecl, ItemKind};
 use std::alloc::Global;
@@ -16,11 +17,11 @@ use toml_keys::{text_at, value_at};
 /// A kind whose items have no `key`.
 fn without_key(
     alloc: Global,
-    prefix: &str,
+    prefix: &Prefix<'_>,
     table: &Table,
     kind: ItemKind,
 ) -> Result<ItemKind, DraftFault>
-    ensures { (result ≡ Err DraftFault.Memory) ⊎ (result ≡ key_refused (prefix.now ++ codes "key") (get_member (codes "key") (table_view table.now)) kind) }
+    ensures { (result ≡ Err DraftFault.Memory) ⊎ (result ≡ key_refused (shown prefix.now ++ codes "key") (get_member (codes "key") (table_view table.now)) kind) }
 {
     match value_at(table, "key") {
         Some(_) => wrong_field(alloc, prefix, "key"),
@@ -28,8 +29,13 @@ fn without_key(
     }
 }
 
-fn kind_of(alloc: Global, prefix: &str, table: &Table, word: &str) -> Result<ItemKind, DraftFault>
-    ensures { (result ≡ Err DraftFault.Memory) ⊎ (result ≡ kind_of prefix.now (table_view table.now) word.now) }
+fn kind_of(
+    alloc: Global,
+    prefix: &Prefix<'_>,
+    table: &Table,
+    word: &str,
+) -> Result<ItemKind, DraftFault>
+    ensures { (result ≡ Err DraftFault.Memory) ⊎ (result ≡ kind_of (shown prefix.now) (table_view table.now) word.now) }
 {
     if word == "simple" {
         without_key(alloc, prefix, table, ItemKind::Simple)
@@ -47,8 +53,8 @@ fn kind_of(alloc: Global, prefix: &str, table: &Table, word: &str) -> Result<Ite
 
 /// An item.
 #[tactic(auto, unfolding(toml_keys::specs::Documents::texts_of))]
-fn item_in(alloc: Global, prefix: &str, table: &Table) -> Result<ItemDecl, DraftFault>
-    ensures { (result ≡ Err DraftFault.Memory) ⊎ (result ≡ item_in prefix.now (table_view table.now)) }
+fn item_in(alloc: Global, prefix: &Prefix<'_>, table: &Table) -> Result<ItemDecl, DraftFault>
+    ensures { (result ≡ Err DraftFault.Memory) ⊎ (result ≡ item_in (shown prefix.now) (table_view table.now)) }
 {
     let name = name_at(alloc, prefix, table, "name")?;
     let word = match text_at(table, "kind") {
@@ -68,16 +74,17 @@ impl Entry for ItemDecl {
 
     fn read(
         alloc: Global,
-        path: &str,
+        prefix: &Prefix<'_>,
+        key: &str,
         index: usize,
         value: &Value,
     ) -> Result<ItemDecl, DraftFault> {
         match value.as_table() {
             Some(table) => {
-                let prefix = inside_nth(alloc, path, index)?;
-                item_in(alloc, prefix.as_str(), table)
+                let prefix = Prefix::Entry(prefix, key, index);
+                item_in(alloc, &prefix, table)
             }
-            None => wrong_entry(alloc, path, index),
+            None => wrong_entry(alloc, prefix, key, index),
         }
     }
 }

@@ -16,6 +16,7 @@ mod laws;
 mod names;
 mod parts;
 mod paths;
+mod prefix;
 mod read;
 mod recorder;
 mod step;

@@ -6,6 +6,7 @@ use crate::entry::Entry;
 use crate::fault::DraftFault;
 use crate::faults::{wrong_entry, wrong_entry_name};
 use crate::names::is_name;
+use crate::prefix::Prefix;
 use item_types::Text;
 use std::alloc::Global;
 use toml::Value;
@@ -68,21 +69,22 @@ impl Entry for DraftConsume {
 
     fn read(
         alloc: Global,
-        path: &str,
+        prefix: &Prefix<'_>,
+        key: &str,
         index: usize,
         value: &Value,
     ) -> Result<DraftConsume, DraftFault> {
         let text = match value.as_str() {
             Some(text) => text,
-            None => return wrong_entry(alloc, path, index),
+            None => return wrong_entry(alloc, prefix, key, index),
         };
         let (item, words) = parts(text);
         let optional = match optional_of(words) {
             Some(optional) => optional,
-            None => return wrong_entry(alloc, path, index),
+            None => return wrong_entry(alloc, prefix, key, index),
         };
         if !is_name(item) {
-            return wrong_entry_name(alloc, path, index);
+            return wrong_entry_name(alloc, prefix, key, index);
         }
         let item = Text::of(alloc, item)?;
         Ok(DraftConsume { item, optional })
@@ -96,21 +98,22 @@ impl Entry for DraftProduce {
 
     fn read(
         alloc: Global,
-        path: &str,
+        prefix: &Prefix<'_>,
+        key: &str,
         index: usize,
         value: &Value,
     ) -> Result<DraftProduce, DraftFault> {
         let text = match value.as_str() {
             Some(text) => text,
-            None => return wrong_entry(alloc, path, index),
+            None => return wrong_entry(alloc, prefix, key, index),
         };
         let (item, words) = parts(text);
         let flags = match flags_of(words) {
             Some(flags) => flags,
-            None => return wrong_entry(alloc, path, index),
+            None => return wrong_entry(alloc, prefix, key, index),
         };
         if !is_name(item) {
-            return wrong_entry_name(alloc, path, index);
+            return wrong_entry_name(alloc, prefix, key, index);
         }
         let item = Text::of(alloc, item)?;
         Ok(DraftProduce { item, flags })
@@ -122,10 +125,16 @@ impl Entry for Text {
 
     ghost reads = { final };
 
-    fn read(alloc: Global, path: &str, index: usize, value: &Value) -> Result<Text, DraftFault> {
+    fn read(
+        alloc: Global,
+        prefix: &Prefix<'_>,
+        key: &str,
+        index: usize,
+        value: &Value,
+    ) -> Result<Text, DraftFault> {
         match value.as_str() {
             Some(text) => Ok(Text::of(alloc, text)?),
-            None => wrong_entry(alloc, path, index),
+            None => wrong_entry(alloc, prefix, key, index),
         }
     }
 }

@@ -7,7 +7,7 @@ use crate::fault::DraftFault;
 use crate::file::file;
 use item_types::Text;
 use std::alloc::Global;
-use toml_keys::{ReadFault, read_table};
+use toml_keys::{ReadFault, let_go, read_table};
 
 /// A project file has at most so many bytes.
 const SIZE_LIMIT: usize = 1_048_576;
@@ -28,7 +28,9 @@ fn read_bytes(alloc: Global, bytes: &[u8]) -> Result<Draft, DraftFault>
         Err(ReadFault::Toml) => return Err(DraftFault::Toml),
         Err(ReadFault::Memory) => return Err(DraftFault::Memory),
     };
-    file(alloc, &table)
+    let answer = file(alloc, &table);
+    let_go(alloc, table);
+    answer
 }
 
 /// What each key of a project file says.

@@ -1,5 +1,6 @@
 ghost use Rattle.std.specs.Prelude.{◌≡◌, ◌⊎◌, ◌≤◌, ◌+◌, ◌++◌, length, Err, IfOk, codes};
 ghost use Rattle.toml.specs.View.{items_view, table_view, view};
+ghost use Rattle.ext_draft.specs.Places.{shown};
 ghost use Rattle.ext_draft.specs.Declarations.{method_count, method_in, recorder_in, recorders_at, recorders_of};
 ghost use Rattle.ext_draft.specs.Paths.{nth};
 ghost use Rattle.ext_draft.specs.Reading.{table_entry};
@@ -9,7 +10,7 @@ use crate::draft::{DraftMethod, DraftRecorder};
 use crate::entry::Entry;
 use crate::fault::DraftFault;
 use crate::faults::wrong_entry;
-use crate::paths::{inside_nth, path_of};
+use crate::prefix::Prefix;
 use crate::table::{list_at, list_of, name_at, names_at, without_others};
 use item_types::Seq;
 use std::alloc::Global;
@@ -17,8 +18,8 @@ use toml::{Table, Value};
 
 /// A method.
 #[tactic(auto, unfolding(toml_keys::specs::Documents::texts_of))]
-fn method_in(alloc: Global, prefix: &str, table: &Table) -> Result<DraftMethod, DraftFault>
-    ensures { (result ≡ Err DraftFault.Memory) ⊎ (result ≡ method_in prefix.now (table_view table.now)) }
+fn method_in(alloc: Global, prefix: &Prefix<'_>, table: &Table) -> Result<DraftMethod, DraftFault>
+    ensures { (result ≡ Err DraftFault.Memory) ⊎ (result ≡ method_in (shown prefix.now) (table_view table.now)) }
 {
     let name = name_at(alloc, prefix, table, "name")?;
     let params = names_at(alloc, 8, prefix, table, "params")?;
@@ -35,16 +36,17 @@ impl Entry for DraftMethod {
 
     fn read(
         alloc: Global,
-        path: &str,
+        prefix: &Prefix<'_>,
+        key: &str,
         index: usize,
         value: &Value,
     ) -> Result<DraftMethod, DraftFault> {
         match value.as_table() {
             Some(table) => {
-                let prefix = inside_nth(alloc, path, index)?;
-                method_in(alloc, prefix.as_str(), table)
+                let prefix = Prefix::Entry(prefix, key, index);
+                method_in(alloc, &prefix, table)
             }
-            None => wrong_entry(alloc, path, index),
+            None => wrong_entry(alloc, prefix, key, index),
         }
     }
 }
@@ -54,11 +56,11 @@ impl Entry for DraftMethod {
 fn recorder_in(
     alloc: Global,
     before: usize,
-    prefix: &str,
+    prefix: &Prefix<'_>,
     table: &Table,
 ) -> Result<DraftRecorder, DraftFault>
     requires { before ≤ 1024 }
-    ensures { (result ≡ Err DraftFault.Memory) ⊎ (result ≡ recorder_in before prefix.now (table_view table.now)) }
+    ensures { (result ≡ Err DraftFault.Memory) ⊎ (result ≡ recorder_in before (shown prefix.now) (table_view table.now)) }
 {
     let name = name_at(alloc, prefix, table, "name")?;
     let fields = names_at(alloc, 16, prefix, table, "fields")?;
@@ -82,20 +84,21 @@ fn recorder_in(
 fn recorder_at(
     alloc: Global,
     before: usize,
-    path: &str,
+    prefix: &Prefix<'_>,
+    key: &str,
     index: usize,
     value: &Value,
 ) -> Result<DraftRecorder, DraftFault>
     requires { before ≤ 1024 }
-    ensures answer { (result ≡ Err DraftFault.Memory) ⊎ (result ≡ table_entry (recorder_in before) (nth path.now index) (view value.now)) }
+    ensures answer { (result ≡ Err DraftFault.Memory) ⊎ (result ≡ table_entry (recorder_in before) (nth (shown prefix.now ++ key.now) index) (view value.now)) }
     ensures few { IfOk result (λ r. before + length r.methods ≤ 1024) }
 {
     match value.as_table() {
         Some(table) => {
-            let prefix = inside_nth(alloc, path, index)?;
-            recorder_in(alloc, before, prefix.as_str(), table)
+            let prefix = Prefix::Entry(prefix, key, index);
+            recorder_in(alloc, before, &prefix, table)
         }
-        None => wrong_entry(alloc, path, index),
+        None => wrong_entry(alloc, prefix, key, index),
     }
 }
 
@@ -103,16 +106,17 @@ fn recorder_at(
 fn recorders_at(
     alloc: Global,
     before: usize,
-    path: &str,
+    prefix: &Prefix<'_>,
+    key: &str,
     values: &[Value],
 ) -> Result<Seq<DraftRecorder>, DraftFault>
     requires { before ≤ 1024 }
-    ensures { (result ≡ Err DraftFault.Memory) ⊎ (result ≡ recorders_at before path.now 0 (items_view values.now)) }
+    ensures { (result ≡ Err DraftFault.Memory) ⊎ (result ≡ recorders_at before (shown prefix.now ++ key.now) 0 (items_view values.now)) }
 {
     let mut found = Seq::new(alloc);
     let mut methods = before;
     for (index, value) in values.iter().enumerate() {
-        match recorder_at(alloc, methods, path, index, value) {
+        match recorder_at(alloc, methods, prefix, key, index, value) {
             Ok(recorder) => {
                 methods += recorder.methods.len();
                 if found.push(recorder).is_err() {
@@ -130,16 +134,15 @@ pub fn recorders_of(
     alloc: Global,
     before: usize,
     methods: usize,
-    prefix: &str,
+    prefix: &Prefix<'_>,
     table: &Table,
 ) -> Result<Seq<DraftRecorder>, DraftFault>
     requires few { before ≤ 256 }
     requires few_methods { methods ≤ 1024 }
-    ensures { (result ≡ Err DraftFault.Memory) ⊎ (result ≡ recorders_of before methods prefix.now (table_view table.now)) }
+    ensures { (result ≡ Err DraftFault.Memory) ⊎ (result ≡ recorders_of before methods (shown prefix.now) (table_view table.now)) }
 {
-    let path = path_of(alloc, prefix, "recorders")?;
-    match list_at(alloc, 256, before, path.as_str(), table, "recorders") {
-        Ok(values) => recorders_at(alloc, methods, path.as_str(), values),
+    match list_at(alloc, 256, before, prefix, table, "recorders") {
+        Ok(values) => recorders_at(alloc, methods, prefix, "recorders", values),
         Err(fault) => Err(fault),
     }
 }

@@ -1,6 +1,7 @@
 ghost use Rattle.std.specs.Prelude.{◌≡◌, ◌⊎◌, ◌++◌, Err, codes};
 ghost use Rattle.toml.specs.Data.{get_member};
 ghost use Rattle.toml.specs.View.{table_view};
+ghost use Rattle.ext_draft.specs.Places.{shown};
 ghost use Rattle.ext_draft.specs.FirstWalk.{phase_at, phase_named, step_in};
 
 use crate::body::body_at;
@@ -8,7 +9,7 @@ use crate::draft::DraftStep;
 use crate::entry::Entry;
 use crate::fault::DraftFault;
 use crate::faults::{wrong_entry, wrong_field};
-use crate::paths::inside_nth;
+use crate::prefix::Prefix;
 use crate::table::{list_of, name_at, names_at, without_others};
 use item_types::Phase;
 use std::alloc::Global;
@@ -28,8 +29,8 @@ fn phase_named(word: &str) -> Option<Phase>
 }
 
 /// The phase at the key `record`.
-fn phase_at(alloc: Global, prefix: &str, table: &Table) -> Result<Option<Phase>, DraftFault>
-    ensures { (result ≡ Err DraftFault.Memory) ⊎ (result ≡ phase_at (prefix.now ++ codes "record") (get_member (codes "record") (table_view table.now))) }
+fn phase_at(alloc: Global, prefix: &Prefix<'_>, table: &Table) -> Result<Option<Phase>, DraftFault>
+    ensures { (result ≡ Err DraftFault.Memory) ⊎ (result ≡ phase_at (shown prefix.now ++ codes "record") (get_member (codes "record") (table_view table.now))) }
 {
     let value = match value_at(table, "record") {
         Some(value) => value,
@@ -47,8 +48,8 @@ fn phase_at(alloc: Global, prefix: &str, table: &Table) -> Result<Option<Phase>,
 
 /// A step.
 #[tactic(auto, unfolding(toml_keys::specs::Documents::texts_of, crate::specs::FirstWalk::step_in))]
-fn step_in(alloc: Global, prefix: &str, table: &Table) -> Result<DraftStep, DraftFault>
-    ensures { (result ≡ Err DraftFault.Memory) ⊎ (result ≡ step_in prefix.now (table_view table.now)) }
+fn step_in(alloc: Global, prefix: &Prefix<'_>, table: &Table) -> Result<DraftStep, DraftFault>
+    ensures { (result ≡ Err DraftFault.Memory) ⊎ (result ≡ step_in (shown prefix.now) (table_view table.now)) }
 {
     let name = name_at(alloc, prefix, table, "name")?;
     let consumes = list_of(alloc, 64, 0, prefix, table, "consumes")?;
@@ -91,16 +92,17 @@ impl Entry for DraftStep {
 
     fn read(
         alloc: Global,
-        path: &str,
+        prefix: &Prefix<'_>,
+        key: &str,
         index: usize,
         value: &Value,
     ) -> Result<DraftStep, DraftFault> {
         match value.as_table() {
             Some(table) => {
-                let prefix = inside_nth(alloc, path, index)?;
-                step_in(alloc, prefix.as_str(), table)
+                let prefix = Prefix::Entry(prefix, key, index);
+                step_in(alloc, &prefix, table)
             }
-            None => wrong_entry(alloc, path, index),
+            None => wrong_entry(alloc, prefix, key, index),
         }
     }
 }

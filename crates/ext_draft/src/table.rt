@@ -2,22 +2,29 @@ ghost use Rattle.std.specs.Prelude.{◌≡◌, ◌⊎◌, ◌+◌, ◌++◌, ◌
 ghost use Rattle.toml.specs.Data.{get_member};
 ghost use Rattle.toml.specs.View.{items_view, table_view, view};
 ghost use Rattle.toml_keys.specs.Documents.{texts_of};
+ghost use Rattle.ext_draft.specs.Places.{shown};
 ghost use Rattle.ext_draft.specs.Paths.{nth};
 ghost use Rattle.ext_draft.specs.Reading.{name_at, name_entry, names_at, entries_at, list_at, list_of, without_others};
 
 use crate::entry::{Entry, entries};
 use crate::fault::DraftFault;
-use crate::faults::{too_long, wrong_entry, wrong_entry_name, wrong_field, wrong_name, wrong_path};
+use crate::faults::{too_long, wrong_entry, wrong_entry_name, wrong_field, wrong_name};
 use crate::names::is_name;
-use crate::paths::{path_of, path_of_any};
+use crate::paths::other_key_path;
+use crate::prefix::Prefix;
 use item_types::{Seq, Text};
 use std::alloc::Global;
 use toml::{Table, Value};
 use toml_keys::{entry_count, other_key, text_at, value_at};
 
 /// The name at a key that has to be there.
-pub fn name_at(alloc: Global, prefix: &str, table: &Table, key: &str) -> Result<Text, DraftFault>
-    ensures { (result ≡ Err DraftFault.Memory) ⊎ (result ≡ name_at prefix.now (table_view table.now) key.now) }
+pub fn name_at(
+    alloc: Global,
+    prefix: &Prefix<'_>,
+    table: &Table,
+    key: &str,
+) -> Result<Text, DraftFault>
+    ensures { (result ≡ Err DraftFault.Memory) ⊎ (result ≡ name_at (shown prefix.now) (table_view table.now) key.now) }
 {
     match text_at(table, key) {
         Some(text) => {
@@ -36,13 +43,13 @@ pub fn list_at<'a>(
     alloc: Global,
     limit: usize,
     before: usize,
-    path: &str,
+    prefix: &Prefix<'_>,
     table: &'a Table,
     key: &str,
 ) -> Result<&'a [Value], DraftFault>
     requires { before < 2 ^ 62 }
-    ensures ok { IfOk result (λ values. list_at limit before path.now (get_member key.now (table_view table.now)) ≡ Ok (items_view values.now)) }
-    ensures err { IfErr result (λ fault. (fault ≡ DraftFault.Memory) ⊎ (list_at limit before path.now (get_member key.now (table_view table.now)) ≡ Err fault)) }
+    ensures ok { IfOk result (λ values. list_at limit before (shown prefix.now ++ key.now) (get_member key.now (table_view table.now)) ≡ Ok (items_view values.now)) }
+    ensures err { IfErr result (λ fault. (fault ≡ DraftFault.Memory) ⊎ (list_at limit before (shown prefix.now ++ key.now) (get_member key.now (table_view table.now)) ≡ Err fault)) }
 {
     let value = match value_at(table, key) {
         Some(value) => value,
@@ -50,11 +57,11 @@ pub fn list_at<'a>(
     };
     let array = match value.as_array() {
         Some(array) => array,
-        None => return wrong_path(alloc, path),
+        None => return wrong_field(alloc, prefix, key),
     };
     let found = before + entry_count(array);
     if limit < found {
-        return too_long(alloc, path, found);
+        return too_long(alloc, prefix, key, found);
     }
     Ok(array.as_slice())
 }
@@ -64,40 +71,50 @@ pub fn list_of<E: Entry>(
     alloc: Global,
     limit: usize,
     before: usize,
-    prefix: &str,
+    prefix: &Prefix<'_>,
     table: &Table,
     key: &str,
 ) -> Result<Seq<E>, DraftFault>
     requires { before < 2 ^ 62 }
-    ensures { (result ≡ Err DraftFault.Memory) ⊎ (result ≡ list_of E.reads limit before prefix.now (table_view table.now) key.now) }
+    ensures { (result ≡ Err DraftFault.Memory) ⊎ (result ≡ list_of E.reads limit before (shown prefix.now) (table_view table.now) key.now) }
 {
-    let path = path_of(alloc, prefix, key)?;
-    match list_at(alloc, limit, before, path.as_str(), table, key) {
-        Ok(values) => entries(alloc, path.as_str(), values),
+    match list_at(alloc, limit, before, prefix, table, key) {
+        Ok(values) => entries(alloc, prefix, key, values),
         Err(fault) => Err(fault),
     }
 }
 
-/// The name at an entry of the list at `path`.
-fn name_in(alloc: Global, path: &str, index: usize, value: &Value) -> Result<Text, DraftFault>
-    ensures { (result ≡ Err DraftFault.Memory) ⊎ (result ≡ name_entry (nth path.now index) (view value.now)) }
+/// The name at an entry of the list at a key.
+fn name_in(
+    alloc: Global,
+    prefix: &Prefix<'_>,
+    key: &str,
+    index: usize,
+    value: &Value,
+) -> Result<Text, DraftFault>
+    ensures { (result ≡ Err DraftFault.Memory) ⊎ (result ≡ name_entry (nth (shown prefix.now ++ key.now) index) (view value.now)) }
 {
     let text = match value.as_str() {
         Some(text) => text,
-        None => return wrong_entry(alloc, path, index),
+        None => return wrong_entry(alloc, prefix, key, index),
     };
     if !is_name(text) {
-        return wrong_entry_name(alloc, path, index);
+        return wrong_entry_name(alloc, prefix, key, index);
     }
     Ok(Text::of(alloc, text)?)
 }
 
-fn names_in(alloc: Global, path: &str, values: &[Value]) -> Result<Seq<Text>, DraftFault>
-    ensures { (result ≡ Err DraftFault.Memory) ⊎ (result ≡ entries_at name_entry path.now 0 (items_view values.now)) }
+fn names_in(
+    alloc: Global,
+    prefix: &Prefix<'_>,
+    key: &str,
+    values: &[Value],
+) -> Result<Seq<Text>, DraftFault>
+    ensures { (result ≡ Err DraftFault.Memory) ⊎ (result ≡ entries_at name_entry (shown prefix.now ++ key.now) 0 (items_view values.now)) }
 {
     let mut found = Seq::new(alloc);
     for (index, value) in values.iter().enumerate() {
-        match name_in(alloc, path, index, value) {
+        match name_in(alloc, prefix, key, index, value) {
             Ok(name) => {
                 if found.push(name).is_err() {
                     return Err(DraftFault::Memory);
@@ -113,15 +130,14 @@ fn names_in(alloc: Global, path: &str, values: &[Value]) -> Result<Seq<Text>, Dr
 pub fn names_at(
     alloc: Global,
     limit: usize,
-    prefix: &str,
+    prefix: &Prefix<'_>,
     table: &Table,
     key: &str,
 ) -> Result<Seq<Text>, DraftFault>
-    ensures { (result ≡ Err DraftFault.Memory) ⊎ (result ≡ names_at limit prefix.now (table_view table.now) key.now) }
+    ensures { (result ≡ Err DraftFault.Memory) ⊎ (result ≡ names_at limit (shown prefix.now) (table_view table.now) key.now) }
 {
-    let path = path_of(alloc, prefix, key)?;
-    match list_at(alloc, limit, 0, path.as_str(), table, key) {
-        Ok(values) => names_in(alloc, path.as_str(), values),
+    match list_at(alloc, limit, 0, prefix, table, key) {
+        Ok(values) => names_in(alloc, prefix, key, values),
         Err(fault) => Err(fault),
     }
 }
@@ -130,14 +146,14 @@ pub fn names_at(
 pub fn without_others<T: Drop>(
     alloc: Global,
     own: &[&str],
-    prefix: &str,
+    prefix: &Prefix<'_>,
     table: &Table,
     read: T,
 ) -> Result<T, DraftFault>
-    ensures { (result ≡ Err DraftFault.Memory) ⊎ (result ≡ without_others (texts_of own.now) prefix.now (table_view table.now) read) }
+    ensures { (result ≡ Err DraftFault.Memory) ⊎ (result ≡ without_others (texts_of own.now) (shown prefix.now) (table_view table.now) read) }
 {
     match other_key(table, own) {
-        Some(key) => match path_of_any(alloc, prefix, key) {
+        Some(key) => match other_key_path(alloc, prefix, key) {
             Ok(path) => Err(DraftFault::Field(Text::from_string(path))),
             Err(_) => Err(DraftFault::Memory),
         },
