@@ -2,7 +2,7 @@ pub mod Keys
 pub mod Whole
 pub mod Rows
 pub mod Trees
-pub mod Texts
+pub mod ReadTexts
 pub mod Numbers
 pub mod Apart
 pub mod Distinct

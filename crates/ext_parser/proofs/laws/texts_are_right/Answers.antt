@@ -6,7 +6,7 @@ use Rattle.ext_parser.specs.ProjectOfTheBytes.{project}
 use Rattle.ext_parser.specs.SecondWalk.{item_names, items_of}
 use Rattle.ext_parser.specs.RightTexts.{IsReadBody, IsReadMethod, AreReadMethods}
 use Rattle.ext_parser.specs.declared.project.Project.{Project}
-use Rattle.ext_parser.proofs.Texts.{texts-are, of-draft, read-methods, right-methods}
+use Rattle.ext_parser.proofs.ReadTexts.{texts-are, of-draft, read-methods, right-methods}
 use Rattle.ext_parser.proofs.laws.texts_are_right.Goals as goal
 
 pub returns-clause-bodies : goal.returns-clause-bodies
