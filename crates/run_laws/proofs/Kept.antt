@@ -265,15 +265,16 @@ item_of_take job g s i vs es (inr (inr b)) q =
     let two = subst (λ x. next_of job s x g ≡ Some (Take s i vs)) b.is q in
     let at : slice_get (rest_of job s (meaning_at job s b.v)) (length b.u) ≡ Some (Take s i vs) = sym one ∙ two in
     absurd (no_take job s (meaning_at job s b.v) (length b.u) i vs at) where
-  no_put_take : (t : ℕ) (qs : List (ℕ × Value)) (cs : List Call) (n j : ℕ) (ws : List Value) → slice_get (puts_of t qs ++ End t cs ∷ []) n ≡ Some (Take t j ws) → ⊥
-  no_put_take t [] cs zero j ws r = let z : End t cs ≡ Take t j ws = cc r in cc z
-  no_put_take t [] cs (suc n) j ws r = cc r
-  no_put_take t (p ∷ qs) cs zero j ws r = let z : Put t p.0 p.1 ≡ Take t j ws = cc r in cc z
-  no_put_take t (p ∷ qs) cs (suc n) j ws r = no_put_take t qs cs n j ws r
-  no_take : (w : JobView) (t : ℕ) (o : Outcome) (n j : ℕ) (ws : List Value) → slice_get (rest_of w t o) n ≡ Some (Take t j ws) → ⊥
-  no_take w t (Done ps cs) n j ws r = no_put_take t (kept w t ps) cs n j ws r
-  no_take w t (Fails f) zero j ws r = let z : Fail t f ≡ Take t j ws = cc r in cc z
-  no_take w t (Fails f) (suc n) j ws r = cc r
+      no_put_take : (t : ℕ) (qs : List (ℕ × Value)) (cs : List Call) (n j : ℕ) (ws : List Value) → slice_get (puts_of t qs ++ End t cs ∷ []) n ≡ Some (Take t j ws) → ⊥
+      no_put_take t [] cs zero j ws r = let z : End t cs ≡ Take t j ws = cc r in cc z
+      no_put_take t [] cs (suc n) j ws r = cc r
+      no_put_take t (p ∷ qs) cs zero j ws r = let z : Put t p.0 p.1 ≡ Take t j ws = cc r in cc z
+      no_put_take t (p ∷ qs) cs (suc n) j ws r = no_put_take t qs cs n j ws r
+
+      no_take : (w : JobView) (t : ℕ) (o : Outcome) (n j : ℕ) (ws : List Value) → slice_get (rest_of w t o) n ≡ Some (Take t j ws) → ⊥
+      no_take w t (Done ps cs) n j ws r = no_put_take t (kept w t ps) cs n j ws r
+      no_take w t (Fails f) zero j ws r = let z : Fail t f ≡ Take t j ws = cc r in cc z
+      no_take w t (Fails f) (suc n) j ws r = cc r
 
 -- effective productions are those of effective producers
 abbrev pub Effective : Type 0

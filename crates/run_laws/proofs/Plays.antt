@@ -176,8 +176,8 @@ kept_static effective sound job h run b r e =
     let run1 : IsOneThreadRun job (e.front ++ End r.step r.calls ∷ e.back) = subst (IsOneThreadRun job) e.is run in
     calls_named effective sound job e.front e.back b r run1 (e.declared ∙ ap Some (sym e.of_phase))
     (λ p k static.
-      let w = kept_by job Static e.front p k (static e.of_phase) in
-      (w.0, subst (λ l. Contains l w.0) (sym e.earlier) w.1, w.2, w.3))
+    let w = kept_by job Static e.front p k (static e.of_phase) in
+    (w.0, subst (λ l. Contains l w.0) (sym e.earlier) w.1, w.2, w.3))
 
 runtime_kept : (job : JobView) (h : List Event) (b2 : List Recording) (r : Recording) → Ended job Runtime h b2 r → (p : Proxy) (f : Phase) → p.phase ≡ f
     → (e : List Event) → EndKeeps job e p → (k : List Event) → h ≡ e ++ k → b2 ≡ flat_map (recorded job Runtime) e
