@@ -127,7 +127,7 @@ module _ (names : Names) (B : StepDecl → Body → Type 0) (M : ℕ → ℕ →
       let b = then-ok (lists_at names (suc number) path (suc n) recorders) (λ more. Ok (a.0 ∷ more)) lists a.2 in
       let is : a.0 ∷ b.0 ≡ lists = (let e = b.2 in cc) in
       let here : MethodsAre number 0 (length r.methods) a.0 = methods-are number (inside (nth path n) ++ codes "methods") 0 r.methods a.0 a.1 in
-      subst (λ w. ListsAre M number (map recorder_of (r ∷ recorders)) w) is (here.many ∙ sym (length-map method_of r.methods), here.each, lists-are (suc number) path (suc n) recorders b.0 b.1)
+      subst (λ w. ListsAre M number (map recorder_of (r ∷ recorders)) w) is (here.many ∙ sym (length-map r.methods method_of), here.each, lists-are (suc number) path (suc n) recorders b.0 b.1)
 
   pub record TextsAre (items on : List (List ℕ)) (number : ℕ) (es : List DraftExtension) (t : Texts) : Type 0 where
     pub bodies : AllZip B (flat_map (steps_of items on) es) t.bodies
