@@ -64,10 +64,10 @@ module _ (Allows Stops : Outcome → Type 0) (before now : Outside) (status : �
   -- where a write failed, nothing is put
   pub nothing_put : ((o : Outcome) → Stops o → o.text ≡ []) → (now.shelf.write_faults ≡ before.shelf.write_faults → ⊥) → now.sink.bytes ≡ before.sink.bytes
   nothing_put silent failed =
-      let stopped = λ (o : Outcome) (stops : Stops o) (done : Done o before now).
-      (subst (λ text. Grows text before.sink.bytes now.sink.bytes) (silent o stops) done.text ∙ sym (same_text before.sink.bytes)) in
-      let part = λ (o : Outcome) (done : DoneInPart o before now).
-      elim done [ inl files ↦ files.text | inr text ↦ absurd (failed text.writes) ] in
+      let stopped : (o : Outcome) → Stops o → Done o before now → now.sink.bytes ≡ before.sink.bytes
+      = λ o stops done. subst (λ text. Grows text before.sink.bytes now.sink.bytes) (silent o stops) done.text ∙ sym (same_text before.sink.bytes) in
+      let part : (o : Outcome) → DoneInPart o before now → now.sink.bytes ≡ before.sink.bytes
+      = λ o done. elim done [ inl files ↦ files.text | inr text ↦ absurd (failed text.writes) ] in
       elim (kinds status a.known) [
         | inl final ↦ let quiet = a.quiet final in absurd (failed quiet.writes)
         | inr other ↦ elim other [
@@ -110,7 +110,11 @@ accepted_planned law file before now status m p a room quiet files holds accepte
     (λ o told. status_of o _ (accepted_done law OfPlan plan_ends (m file) o p (told_at (CommandOutcome command) before.shelf.files m o files told) holds accepted).2)
     (λ is. omega (arith, is)) room quiet
 
-no_six : (6 ≡ 0) ⊎ (6 ≡ 4) → ⊥
+-- the statuses of a build that ran
+abbrev Well : ℕ → Type 0
+Well n = (n ≡ 0) ⊎ (n ≡ 4)
+
+no_six : Well 6 → ⊥
 no_six is = elim is [ inl e ↦ omega (arith, e) | inr e ↦ omega (arith, e) ]
 
 pub accepted_built : NoFaultIsAccepted → (file out : List ℕ) (workers : ℕ) (before now : Outside) (status : ℕ) (m : Files) (p : Project)
@@ -119,7 +123,7 @@ pub accepted_built : NoFaultIsAccepted → (file out : List ℕ) (workers : ℕ)
 accepted_built law file out workers before now status m p a room quiet files holds accepted =
     let command = Build file out workers in
     let Then = OfBuild out workers in
-    elim (answered_by (Told (CommandOutcome command) before.shelf.files) (FirstPart command before.shelf.files) before now status a (λ n. (n ≡ 0) ⊎ (n ≡ 4))
+    elim (answered_by (Told (CommandOutcome command) before.shelf.files) (FirstPart command before.shelf.files) before now status a Well
     (λ o told. build_ends out workers p o
     (accepted_done law Then (build_ends out workers) (m file) o p (told_at (CommandOutcome command) before.shelf.files m o files told) holds accepted))
     no_six room quiet) [

@@ -47,7 +47,7 @@ nothing_done before now sink is = record { files = same_files before.files now.f
 pub not_begun : (o : Outcome) (shelf : Shelved) (sink : Taken) → DoneInPart o (outside shelf sink) (outside shelf sink)
 not_begun o shelf sink =
     let part : FilesInPart o (outside shelf sink) (outside shelf sink)
-    = record { files = ([], (o.files, (refl, inl (same_files shelf.files shelf.files refl)))); text = refl } in
+    = record { files = ([], o.files, refl, inl (same_files shelf.files shelf.files refl)); text = refl } in
     inl part
 
 pub not_final : (n : ℕ) → IsFinal n → 6 ≤ n → n ≤ 8 → ⊥
