@@ -20,7 +20,7 @@ fn build_words(alloc: Global, workers: &str) -> Result<Vec<String>, Memory> {
 }
 
 /// A shelf that holds the text as `app.toml`.
-pub fn shelf_of(alloc: Global, text: &str) -> Result<MemShelf, Memory> {
+fn shelf_of(alloc: Global, text: &str) -> Result<MemShelf, Memory> {
     let bytes = Seq::from_vec(Vec::from_slice(alloc, text.as_bytes())?);
     let mut files = Seq::new(alloc);
     files.push((Text::of(alloc, "app.toml")?, bytes))?;
