@@ -16,6 +16,3 @@ mod view;
 
 pub use board::{Board, Pass};
 pub use laws::each_release_is_told_once;
-
-#[cfg(test)]
-mod tests;
