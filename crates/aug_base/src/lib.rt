@@ -29,6 +29,3 @@ pub use shelf::Shelf;
 pub use sink::{Sink, write_all};
 pub use std_sink::{StdSink, StdStream};
 pub use system::{Stream, System, SystemErr};
-
-#[cfg(test)]
-mod tests;

@@ -111,16 +111,3 @@ impl<S: Stream> Sink for StdSink<S> {
         }
     }
 }
-
-#[cfg(test)]
-mod tests {
-    use super::{Sink, StdSink};
-
-    #[test]
-    fn takes_a_short_piece(rt: HostRuntime) {
-        let mut sink = StdSink::new(rt);
-        assert!(rt; matches!(sink.put(b"a short piece\n"), Ok(14)));
-        assert!(rt; matches!(sink.put(b""), Ok(0)));
-        assert_eq!(rt; sink.faults, 0);
-    }
-}

@@ -29,6 +29,3 @@ pub use laws::{
 };
 pub use numbered::is_numbered;
 pub use plan::Plan;
-
-#[cfg(test)]
-mod tests;

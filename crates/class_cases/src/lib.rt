@@ -3,4 +3,6 @@
 #![tactic(auto)]
 
 #[cfg(test)]
+mod pools;
+#[cfg(test)]
 mod tests;

@@ -29,6 +29,3 @@ pub use pool::Pool;
 pub use pool_err::PoolErr;
 pub use shown::Shown;
 pub use tag::Tag;
-
-#[cfg(test)]
-mod tests;

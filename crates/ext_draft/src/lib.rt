@@ -31,6 +31,3 @@ pub use laws::{draft_of_cut_bytes, drafts_keep_limits};
 pub use names::is_name;
 pub use paths::{inside_nth, nth, path_of};
 pub use read::read_draft;
-
-#[cfg(test)]
-mod tests;

@@ -8,6 +8,3 @@ mod pile;
 mod store;
 
 pub use store::Store;
-
-#[cfg(test)]
-mod tests;

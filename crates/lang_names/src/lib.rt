@@ -10,6 +10,3 @@ mod wrong;
 
 pub use check::{check_body, check_method};
 pub use wrong::{NameFault, Wrong};
-
-#[cfg(test)]
-mod tests;

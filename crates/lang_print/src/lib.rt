@@ -9,6 +9,3 @@ mod printer;
 mod stmts;
 
 pub use print::canonical_text;
-
-#[cfg(test)]
-mod tests;

@@ -13,6 +13,3 @@ mod text;
 
 pub use lang_grammar::LangFault;
 pub use parse::parse_text;
-
-#[cfg(test)]
-mod tests;

@@ -7,6 +7,3 @@ mod noting;
 
 pub use index::Index;
 pub use named::{Named, names_of};
-
-#[cfg(test)]
-mod tests;

@@ -10,6 +10,3 @@ mod operation;
 
 pub use operand::Operand;
 pub use operation::{Added, MAX_TEXT, is_too_long, join, len, less, plus, same_plain, truth};
-
-#[cfg(test)]
-mod tests;

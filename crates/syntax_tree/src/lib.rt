@@ -12,6 +12,3 @@ mod tree;
 pub use copy::{copy_block, copy_expr};
 pub use same::{same_block, same_expr};
 pub use tree::{Body, Expr, Invoke, Link, Method, Methods, NO_NUMBER, Stmt};
-
-#[cfg(test)]
-mod tests;

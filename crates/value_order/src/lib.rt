@@ -8,6 +8,3 @@
 mod order;
 
 pub use order::{found, in_order, rank_law};
-
-#[cfg(test)]
-mod tests;

@@ -1,5 +1,5 @@
-use crate::canonical_text;
 use item_types::{ItemDecl, ItemKind, Memory, Names, Seq, Text};
+use lang_print::canonical_text;
 use std::alloc::Global;
 use syntax_tree::{Expr, Stmt};
 

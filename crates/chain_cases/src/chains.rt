@@ -1,4 +1,4 @@
-use crate::{Plan, build_chain, fault_is_named, is_numbered};
+use chain_builder::{Plan, build_chain, fault_is_named, is_numbered};
 use item_types::{Consume, ItemDecl, ItemKind, Memory, Produce, Seq, StepDecl, Text};
 use std::alloc::Global;
 

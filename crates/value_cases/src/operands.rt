@@ -1,5 +1,5 @@
-use crate::{Added, Operand, is_too_long, join, len, less, plus, same_plain, truth};
 use item_types::{Memory, Text};
+use operators::{Added, Operand, is_too_long, join, len, less, plus, same_plain, truth};
 
 #[test]
 fn each_operation_has_its_worked_answer(rt: HostRuntime) -> Result<(), Memory> {

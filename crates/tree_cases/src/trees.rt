@@ -1,6 +1,6 @@
-use crate::{Body, Expr, Link, Stmt};
 use item_types::{Boxed, Memory, Same, Seq, Text};
 use std::alloc::Global;
+use syntax_tree::{Body, Expr, Link, Stmt};
 
 /// `x.f.f..`, with so many fields behind the variable.
 fn chain(alloc: Global, links: u32) -> Result<Expr, Memory> {

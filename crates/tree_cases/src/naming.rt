@@ -1,5 +1,5 @@
-use crate::{NameFault, Wrong, check_body, check_method};
 use item_types::{Memory, MethodSig, Names, RecorderDecl, Seq, StepDecl, Text};
+use lang_names::{NameFault, Wrong, check_body, check_method};
 use std::alloc::Global;
 use syntax_tree::{Expr, Stmt};
 

@@ -1,4 +1,4 @@
-use crate::{
+use ext_draft::{
     Draft, DraftFault, draft_of_cut_bytes, drafts_keep_limits, inside_nth, is_name, nth, path_of,
     read_draft,
 };

@@ -1,5 +1,5 @@
-use crate::{Index, names_of};
 use item_types::{Memory, Seq, Text};
+use name_index::{Index, names_of};
 
 #[test]
 fn a_name_is_found_at_its_first_place(rt: HostRuntime) -> Result<(), Memory> {

@@ -2,7 +2,7 @@ ghost use Rattle.std.specs.Prelude.{◌<◌, length, IfOk};
 ghost use Rattle.item_types.specs.declared.value.Value.{Value};
 ghost use Rattle.value_order.specs.Found.{kind_of, HasKey};
 
-use crate::Store;
+use item_store::Store;
 use item_types::{ItemDecl, ItemKind, Memory, Names, Seq, Text, Value};
 use std::alloc::Global;
 

@@ -1,5 +1,5 @@
-use crate::{LangFault, parse_text};
 use item_types::{BeanDecl, ItemDecl, ItemKind, MethodSig, Names, RecorderDecl, Same, Seq, Text};
+use lang_reader::{LangFault, parse_text};
 use name_directory::{Directory, Register};
 use std::alloc::Global;
 use std::test::Fail;

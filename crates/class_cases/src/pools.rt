@@ -1,4 +1,4 @@
-use crate::{Entry, Pool, PoolErr, decode_text, encode_text};
+use class_pool::{Entry, Pool, PoolErr, decode_text, encode_text};
 use item_types::{Memory, Text};
 use std::alloc::Global;
 

@@ -1,4 +1,4 @@
-use crate::{MemShelf, MemSink, Shelf, ShelfErr, Sink, SinkErr, write_all};
+use aug_base::{MemShelf, MemSink, Shelf, ShelfErr, Sink, SinkErr, write_all};
 use item_types::{Bytes, Memory, Seq, Text};
 use std::alloc::Global;
 

@@ -1,6 +1,6 @@
 use Rattle.std.proofs.Common.{◌≡◌, ◌∙◌}
 use Rattle.item_types.specs.declared.value.Value.TheVariants as made
-use Rattle.item_store.proofs.tests.hands_out_what_was_put.Goals as goal
+use Rattle.value_cases.proofs.stores.hands_out_what_was_put.Goals as goal
 
 pub reserve-requires : goal.reserve-requires
 reserve-requires g c = rw c.in_ok-store.ensures.names c.in_ok-names.ensures.items

@@ -1,6 +1,6 @@
-use crate::{found, in_order};
 use item_types::{BeanDecl, ItemDecl, ItemKind, Memory, Names, NodeId, Seq, Shared, Text, Value};
 use std::alloc::Global;
+use value_order::{found, in_order};
 
 /// An ordered item, a multi one and an empty one, and a bean of two fields.
 fn sample_names(alloc: Global) -> Result<Names, Memory> {
