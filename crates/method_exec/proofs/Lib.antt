@@ -1,5 +1,4 @@
 pub mod Fields
 pub mod Forms
 pub mod Listing
-pub mod Places
 pub mod Showing

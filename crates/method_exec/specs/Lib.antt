@@ -1,4 +1,3 @@
 pub mod Applied
-pub mod Places
 pub mod Shown
 pub mod Walking

@@ -26,11 +26,6 @@ abbrev pub Gives : {A : Type 0} → Checked A → Result A Stop → Type 0
 Gives outcome (Ok a) = outcome ≡ Ok a
 Gives outcome (Err e) = (x : Invoked) → e ≡ stop.Ends x → (f : MethodFault) × (x ≡ Failed f) × (outcome ≡ Err f)
 
--- something is paid, or the world is as before
-abbrev pub Pays : Checked World → Result (Unit {0}) Stop → World → World → Type 0
-Pays outcome (Ok u) old new = outcome ≡ Ok new
-Pays outcome (Err e) old new = (x : Invoked) → e ≡ stop.Ends x → (f : MethodFault) × (x ≡ Failed f) × (outcome ≡ Err f) × (new ≡ old)
-
 -- a value and a world, or the world is as before
 abbrev pub Makes : Checked (Slot × World) → Result Slot Stop → World → World → Type 0
 Makes outcome (Ok v) old new = outcome ≡ Ok (v, new)

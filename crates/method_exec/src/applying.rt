@@ -5,14 +5,13 @@ ghost use Rattle.method_exec.specs.Walking.{Does};
 
 use crate::field::{add, bean, field_of, get_static, list_of, put_static, set};
 use crate::line::{fail_with, print};
-use crate::making::copy_slots;
 use crate::named::Named;
 use crate::setting::Setting;
 use crate::stop::Stop;
 use crate::values::{equal, len, less, long_text, not, plus, rows, truth, turn};
-use crate::world::World;
 use item_types::{Memory, Names, Text};
 use startup_rules::{Invoked, Op, Slot};
+use startup_world::{World, copy_slots};
 use std::alloc::Global;
 
 /// Names that are borrowed, with their slots.

@@ -10,9 +10,9 @@ use crate::named::Named;
 use crate::setting::Setting;
 use crate::stop::Stop;
 use crate::values::{equal, len, less, long_text, not, plus, truth};
-use crate::world::World;
 use item_types::{Memory, Same, Seq, SharedText, Text};
 use startup_rules::Slot;
+use startup_world::World;
 use syntax_tree::{Expr, Link};
 
 /// A text of the method as a value.

@@ -11,12 +11,11 @@ ghost use Rattle.startup_rules.specs.Acting.{op};
 ghost use Rattle.method_exec.specs.Walking.{Does, Gives, Makes};
 
 use crate::named::Named;
-use crate::object::parts;
 use crate::setting::Setting;
 use crate::stop::{Stop, wrong_kind};
-use crate::world::World;
 use item_types::{BeanDecl, Memory, Names, Seq, Text};
 use startup_rules::{Object, Op, Slot};
+use startup_world::{World, parts};
 use std::alloc::Global;
 
 /// The declared names of an object's fields; a list has none.

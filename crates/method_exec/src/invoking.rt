@@ -6,9 +6,9 @@ use crate::named::Named;
 use crate::setting::Setting;
 use crate::statement::execute_all;
 use crate::stop::Stop;
-use crate::world::World;
 use item_types::{Memory, Names, Text};
 use startup_rules::{Invoked, Slot};
+use startup_world::World;
 use std::alloc::Global;
 use syntax_tree::{Methods, Stmt};
 

@@ -7,10 +7,10 @@ ghost use Rattle.method_exec.specs.Walking.{Does, Gives};
 
 use crate::setting::Setting;
 use crate::stop::{Stop, failed, wrong_kind};
-use crate::world::World;
 use item_types::Text;
 use itoa::Buffer;
 use startup_rules::{MethodFault, Op, Slot};
+use startup_world::World;
 use std::alloc::Global;
 
 /// The line that a value prints.

@@ -9,14 +9,13 @@ ghost use Rattle.method_exec.specs.Walking.{DoesIn};
 use crate::expression::{named_value, test, value_of};
 use crate::field::{add, put_static, set};
 use crate::line::{fail_with, print};
-use crate::making::copy_slots;
 use crate::named::Named;
 use crate::setting::Setting;
 use crate::stop::Stop;
 use crate::values::{rows, turn};
-use crate::world::World;
 use item_types::{Memory, Seq, Text};
 use startup_rules::{Invoked, Slot};
+use startup_world::{World, copy_slots};
 use syntax_tree::Stmt;
 
 /// The elements of a list, and none of another value.

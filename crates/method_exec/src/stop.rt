@@ -48,3 +48,15 @@ impl From<Memory> for Stop {
         Stop::Memory
     }
 }
+
+impl From<MethodFault> for Stop {
+    ghost use Rattle.std.specs.Prelude.{◌≡◌};
+    ghost use Rattle.startup_rules.specs.declared.fault.Invoked.TheVariants.{Failed};
+    ghost use Rattle.method_exec.specs.declared.stop.Stop.TheVariants as stop;
+
+    ghost from_gives = { λ fault e. e ≡ stop.Ends (Failed fault) };
+
+    fn from(fault: MethodFault) -> Stop {
+        failed(fault)
+    }
+}

@@ -8,10 +8,10 @@ ghost use Rattle.method_exec.specs.Walking.{Does};
 
 use crate::setting::Setting;
 use crate::stop::{Stop, failed, wrong_kind};
-use crate::world::World;
 use item_types::SharedText;
 use operators::{Added, Operand};
 use startup_rules::{MethodFault, Op, Slot};
+use startup_world::World;
 
 /// What an operation sees of the slot.
 fn operand<'a>(world: &World, slot: &'a Slot) -> Operand<&'a str>

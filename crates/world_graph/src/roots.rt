@@ -4,7 +4,7 @@ ghost use Rattle.startup_rules.specs.Views.{IsGraph, roots};
 
 use crate::walk::visited;
 use item_types::{Memory, Seq};
-use method_exec::World;
+use startup_world::World;
 use startup_rules::Slot;
 use std::alloc::Global;
 

@@ -3,7 +3,7 @@ ghost use Rattle.std.specs.List.{All};
 ghost use Rattle.startup_rules.specs.Views.{IsGraph, number_in};
 
 use item_types::{Memory, Seq};
-use method_exec::World;
+use startup_world::World;
 use std::alloc::Global;
 use std::marker::Model;
 use world_graph::graph;

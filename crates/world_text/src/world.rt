@@ -6,7 +6,7 @@ use crate::numbering::Numbers;
 use crate::object::push_object;
 use crate::statics::push_all_statics;
 use item_types::{Memory, Names, Text};
-use method_exec::World;
+use startup_world::World;
 
 fn push_lines(lines: &[Text], out: &mut String) -> Result<(), Memory>
     ensures { OnOk result (string_bytes out.new ≡ string_bytes out.old ++ lines_text lines.now) }

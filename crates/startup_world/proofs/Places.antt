@@ -7,7 +7,7 @@ use Rattle.std.proofs.Math.Seq.{set_out}
 use Rattle.std.proofs.lemmas.Bool.{ltb-false}
 use Rattle.startup_rules.specs.declared.slot.Slot.{Slot}
 use Rattle.startup_rules.specs.Worlds.{put}
-use Rattle.method_exec.specs.Places.{key_place}
+use Rattle.startup_world.specs.Places.{key_place}
 
 -- what is not there is not set
 pub set_past : {A : Type 0} (l : List A) (i : ℕ) (a : A) → length l ≤ i → set l i a ≡ l

@@ -2,11 +2,10 @@ ghost use Rattle.std.specs.Prelude.{◌≡◌, [], ◌∷◌, ◌++◌, set, sli
 ghost use Rattle.std.specs.Option.{option_copied};
 ghost use Rattle.startup_rules.specs.Operations as rules;
 ghost use Rattle.startup_rules.specs.Worlds as worlds;
-ghost use Rattle.method_exec.specs.Places as places;
-ghost use Rattle.method_exec.specs.Walking.{Pays};
+ghost use Rattle.startup_world.specs.Places as places;
+ghost use Rattle.startup_world.specs.Paying.{Pays};
 
 use crate::object::{add_item, set_part, set_slot};
-use crate::stop::{Stop, failed};
 use item_types::{Memory, Seq, Text};
 use startup_rules::{MethodFault, Object, Slot};
 use std::alloc::Global;
@@ -59,8 +58,8 @@ impl World {
         }
     }
 
-    /// The memory that the world grows by.
-    pub(crate) fn alloc(&self) -> Global {
+    /// What allocates here.
+    pub fn alloc(&self) -> Global {
         self.alloc
     }
 
@@ -92,8 +91,8 @@ impl World {
         self.lines.as_slice()
     }
 
-    /// The object to which the slot refers.
-    pub(crate) fn object_of(&self, slot: &Slot) -> Option<&Object>
+    /// The object to which the slot refers; `None` where it refers to none. It takes no memory.
+    pub fn object_of(&self, slot: &Slot) -> Option<&Object>
         ensures { option_copied result ≡ rules.object_of self.now slot.now }
     {
         match slot {
@@ -102,8 +101,9 @@ impl World {
         }
     }
 
-    /// The elements of the list to which the slot refers.
-    pub(crate) fn items_of(&self, slot: &Slot) -> Option<&[Slot]>
+    /// The elements of the list to which the slot refers; `None` where it refers to no list. It
+    /// takes no memory.
+    pub fn items_of(&self, slot: &Slot) -> Option<&[Slot]>
         ensures { option_copied result ≡ rules.items_of (rules.object_of self.now slot.now) }
     {
         match self.object_of(slot) {
@@ -112,8 +112,8 @@ impl World {
         }
     }
 
-    /// The static of the recorder at that place.
-    pub(crate) fn static_at(&self, recorder: u32, place: usize) -> Option<&Slot>
+    /// The static of the recorder at that place, where there is one. It takes no memory.
+    pub fn static_at(&self, recorder: u32, place: usize) -> Option<&Slot>
         ensures { option_copied result ≡ slice_get (unwrap_or (slice_get self.now.statics recorder) []) place }
     {
         match self.statics.as_slice().get(recorder as usize) {
@@ -122,8 +122,9 @@ impl World {
         }
     }
 
-    /// Spends a turn, where the bound leaves one.
-    pub(crate) fn turn(&mut self, turns: u64) -> bool
+    /// Spends a turn, where fewer than `turns` were spent; else it is false, and the world is as
+    /// before.
+    pub fn turn(&mut self, turns: u64) -> bool
         ensures there { result ≡ nat_lt self.old.turns turns }
         ensures grown { self.new ≡ (if result then record self.old { turns = self.old.turns + 1 } else self.old) }
     {
@@ -135,31 +136,42 @@ impl World {
     }
 
     /// Pays for cells that are made.
-    pub(crate) fn pay_cells(&mut self, count: usize) -> Result<(), Stop>
+    ///
+    /// # Errors
+    /// `TooManyCells` where the cells of the whole startup would pass 1,000,000: the world is as
+    /// before.
+    pub fn pay_cells(&mut self, count: usize) -> Result<(), MethodFault>
         ensures { Pays (rules.pay_cells count self.old) result self.old self.new }
     {
         let cells = self.cells.saturating_add(count as u64);
         if cells > MAX_CELLS {
-            return Err(failed(MethodFault::TooManyCells));
+            return Err(MethodFault::TooManyCells);
         }
         self.cells = cells;
         Ok(())
     }
 
     /// Pays for bytes of text that are joined or printed.
-    pub(crate) fn pay_text(&mut self, bytes: u64) -> Result<(), Stop>
+    ///
+    /// # Errors
+    /// `TooMuchText` where the text of the whole startup would pass 16,777,216 bytes: the world is
+    /// as before.
+    pub fn pay_text(&mut self, bytes: u64) -> Result<(), MethodFault>
         ensures { Pays (rules.pay_text bytes self.old) result self.old self.new }
     {
         let text = self.text.saturating_add(bytes);
         if text > MAX_TEXT {
-            return Err(failed(MethodFault::TooMuchText));
+            return Err(MethodFault::TooMuchText);
         }
         self.text = text;
         Ok(())
     }
 
-    /// One more object.
-    pub(crate) fn push_object(&mut self, object: Object) -> Result<(), Memory>
+    /// One more object, which has the next number. It spends nothing.
+    ///
+    /// # Errors
+    /// `Memory` for want of memory: the world is as before.
+    pub fn push_object(&mut self, object: Object) -> Result<(), Memory>
         ensures ok { OnOk result (self.new ≡ (worlds.entered object self.old).1) }
         ensures err { OnErr result (self.new ≡ self.old) }
     {
@@ -169,9 +181,13 @@ impl World {
         }
     }
 
-    /// One more line.
-    pub(crate) fn push_line(&mut self, line: Text) -> Result<(), Memory>
-        ensures { OnOk result (self.new ≡ record self.old { lines = self.old.lines ++ line ∷ [] }) }
+    /// One more line. It spends nothing.
+    ///
+    /// # Errors
+    /// `Memory` for want of memory: the world is as before.
+    pub fn push_line(&mut self, line: Text) -> Result<(), Memory>
+        ensures ok { OnOk result (self.new ≡ record self.old { lines = self.old.lines ++ line ∷ [] }) }
+        ensures err { OnErr result (self.new ≡ self.old) }
     {
         match self.lines.push(line) {
             Ok(()) => Ok(()),
@@ -180,9 +196,9 @@ impl World {
     }
 
     /// The static of the recorder at that place is the slot from now on; where there is none,
-    /// nothing changes.
+    /// nothing changes. It takes no memory and spends nothing.
     #[tactic(auto, using(crate::proofs::Places::static_past, crate::proofs::Places::row_there))]
-    pub(crate) fn set_static(&mut self, recorder: u32, place: usize, slot: Slot)
+    pub fn set_static(&mut self, recorder: u32, place: usize, slot: Slot)
         ensures { self.new ≡ record self.old { statics = set self.old.statics recorder (set (unwrap_or (slice_get self.old.statics recorder) []) place slot) } }
     {
         let row = recorder as usize;
@@ -192,8 +208,8 @@ impl World {
     }
 
     /// The part of the object at that place is the slot from now on; where there is none, nothing
-    /// changes.
-    pub(crate) fn set_at(&mut self, object: u32, place: usize, slot: Slot)
+    /// changes. It takes no memory and spends nothing.
+    pub fn set_at(&mut self, object: u32, place: usize, slot: Slot)
         ensures { self.new ≡ worlds.field_set object place slot self.old }
     {
         let row = object as usize;
@@ -217,6 +233,7 @@ impl World {
     /// `Memory` for want of memory: the world is as before.
     pub fn list_add(&mut self, list: u32, slot: Slot) -> Result<(), Memory>
         ensures ok { OnOk result (self.new ≡ worlds.list_added list slot self.old) }
+        ensures err { OnErr result (self.new ≡ self.old) }
     {
         let row = list as usize;
         if row < self.objects.len() {
