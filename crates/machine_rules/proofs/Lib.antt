@@ -1,0 +1,2 @@
+mod Budget
+mod Told
