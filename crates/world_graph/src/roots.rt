@@ -4,8 +4,8 @@ ghost use Rattle.startup_rules.specs.Views.{IsGraph, roots};
 
 use crate::walk::visited;
 use item_types::{Memory, Seq};
-use startup_world::World;
 use startup_rules::Slot;
+use startup_world::World;
 use std::alloc::Global;
 
 /// Adds the references among the slots.
